@@ -1,0 +1,4 @@
+pub mod ByName
+pub mod Escapes
+pub mod Print
+pub mod Void
