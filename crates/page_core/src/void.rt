@@ -4,6 +4,7 @@ ghost use Rattle.page_core.specs.Void.{is_void};
 use text_core::Txt;
 
 /// Whether the elements of this name have no end tag.
+#[tactic(auto, unfolding(crate::specs::Void::void_elements))]
 pub fn is_void(name: &Txt) -> bool
     ensures { result ≡ is_void name.now }
 {
