@@ -1,5 +1,5 @@
 -- What std reads of a text is the number that the text says, and a number that is written says itself.
-use Rattle.std.proofs.Common.{◌≡◌, ◌≢◌, ℕ, ◌+◌, ◌-◌, ◌^◌, ◌<◌, ◌≤◌, Bool, true, false, cond, List, [], ◌∷◌, drop, get_or, length, Some, None, Result, Ok, Err, inl, inr, zero, suc, ◌⊎◌, ℤ, pos, negsuc, neg_ℤ, FitsSigned, refl, ap, sym, ◌∙◌, arith, rules}
+use Rattle.std.proofs.Common.{◌≡◌, ◌≢◌, ℕ, ◌-◌, ◌^◌, ◌<◌, ◌≤◌, Bool, true, false, cond, List, [], ◌∷◌, drop, get_or, length, Some, None, Result, Ok, Err, inl, inr, zero, suc, ◌⊎◌, ℤ, pos, negsuc, FitsSigned, refl, ap, sym, ◌∙◌, arith, rules}
 use Rattle.std.specs.Prelude.{eqb, ◌&&◌, nat_lt, nat_le}
 use Rattle.std.specs.Fmt.{signed_decimal, decimal}
 use Rattle.std.specs.Result.{OkIff, result_ok}

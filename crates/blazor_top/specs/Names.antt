@@ -1,0 +1,34 @@
+-- Which names elements and fields may have.
+use Rattle.std.specs.Prelude.{ℕ, Bool, not, ◌&&◌, List, [], ◌∷◌, codes}
+use Rattle.std.specs.List.{list_any, list_all}
+use Rattle.std.specs.Str.{bytes_eq}
+use Rattle.page_core.specs.Void.{is_void}
+use Rattle.blazor_top.specs.declared.first_page.characters.Class.TheVariants as class
+use Rattle.blazor_top.specs.Characters.{is_in}
+
+-- the words of C# that are no names, and those that begin a directive
+unfoldable pub reserved_words : List (List ℕ)
+reserved_words =
+    codes "async" ∷ codes "await" ∷ codes "bool" ∷ codes "break" ∷ codes "case" ∷ codes "continue" ∷ codes "default"
+    ∷ codes "else" ∷ codes "false" ∷ codes "for" ∷ codes "foreach" ∷ codes "if" ∷ codes "in" ∷ codes "int"
+    ∷ codes "internal" ∷ codes "new" ∷ codes "null" ∷ codes "override" ∷ codes "private" ∷ codes "protected"
+    ∷ codes "public" ∷ codes "return" ∷ codes "string" ∷ codes "switch" ∷ codes "true" ∷ codes "var" ∷ codes "void"
+    ∷ codes "while" ∷ codes "Task" ∷ codes "MarkupString" ∷ codes "ImmutableList" ∷ codes "EventCallback"
+    ∷ codes "RenderFragment" ∷ codes "ChangeEventArgs" ∷ codes "EventArgs" ∷ codes "MouseEventArgs"
+    ∷ codes "KeyboardEventArgs" ∷ codes "FocusEventArgs" ∷ codes "code" ∷ codes "using" ∷ codes "namespace"
+    ∷ codes "implements" ∷ codes "page" ∷ codes "rendermode" ∷ []
+
+abbrev pub is_reserved : List ℕ → Bool
+is_reserved word = list_any (bytes_eq word) reserved_words
+
+-- letters that aren't a reserved word
+abbrev pub is_field_name : List ℕ → Bool
+is_field_name name = list_all (is_in class.Letter) name && not (is_reserved name)
+
+-- names that stand for something of their own in a component
+unfoldable pub kept_names : List (List ℕ)
+kept_names = codes "script" ∷ codes "style" ∷ codes "text" ∷ []
+
+-- neither the name of a void element nor one of these
+abbrev pub is_element_name : List ℕ → Bool
+is_element_name name = not (is_void name) && not (list_any (bytes_eq name) kept_names)

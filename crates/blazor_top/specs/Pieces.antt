@@ -1,0 +1,29 @@
+-- The pieces of content.
+use Rattle.std.specs.Prelude.{◌≡◌, ◌≢◌, ℕ, Bool, true, false, List, ◌++◌, codes}
+use Rattle.blazor_top.specs.declared.first_page.characters.Class.TheVariants as class
+use Rattle.blazor_top.specs.declared.first_page.pieces.PieceKind.{PieceKind}
+use Rattle.blazor_top.specs.declared.first_page.pieces.PieceKind.TheVariants.{Open, Close, Literal, Shown}
+use Rattle.blazor_top.specs.Characters.{IsRun, begins_with, ends_with}
+
+-- its kind, and the name or text that it has
+abbrev pub Piece : Type 0
+Piece = PieceKind × List ℕ
+
+-- whether a letter or digit stands right before, and the text from here on
+abbrev pub Moment : Type 0
+Moment = Bool × List ℕ
+
+-- from a moment, this piece stands first, and leaves that moment behind it
+pub data Stands : Moment → Piece → Moment → Type 0 where
+  -- `<name>`
+  open_tag : (joined : Bool) (name rest : List ℕ) → IsRun class.Lower name →
+      Stands (joined, codes "<" ++ (name ++ (codes ">" ++ rest))) (Open, name) (false, rest)
+  -- `</name>`
+  close_tag : (joined : Bool) (name rest : List ℕ) → IsRun class.Lower name →
+      Stands (joined, codes "</" ++ (name ++ (codes ">" ++ rest))) (Close, name) (false, rest)
+  -- literal characters, as many as there are
+  literal : (joined : Bool) (text rest : List ℕ) → IsRun class.Literal text → begins_with class.Literal rest ≡ false →
+      Stands (joined, text ++ rest) (Literal, text) (ends_with class.Word text, rest)
+  -- `@name`, with no letter or digit before it, and nothing behind it that would go on the expression
+  shown : (name rest : List ℕ) → IsRun class.Letter name → name ≢ codes "code" → begins_with class.Continuing rest ≡ false →
+      Stands (false, codes "@" ++ (name ++ rest)) (Shown, name) (true, rest)

@@ -1,0 +1,88 @@
+// The top call.
+ghost use Rattle.std.specs.Prelude.{◌≡◌, ◌≤◌, ◌⊎◌};
+ghost use Rattle.outside.specs.Faults.{Rose};
+ghost use Rattle.blazor_top.specs.Run.{IsRendered, IsRefused, IsMisused, IsMissing, IsUnread, IsTooLarge, IsCutOff, IsAccepted, Says, IsStatus, Finishes};
+
+use crate::output::{Written, write_all};
+use crate::reply::{Reply, reply_for};
+use crate::status::Status;
+use outside::{Files, Sink};
+use std::alloc::Global;
+use text_core::{Oom, Txt};
+
+/// What the top call answers.
+#[derive(Clone, Copy, Debug, PartialEq, Eq)]
+pub struct Finished {
+    /// The number with which the process ends: docs/DEFINITIONS.md, "Statuses".
+    pub status: u8,
+}
+
+/// Writes a reply, and says how that ended.
+fn finish<S: Sink>(out: &mut S, reply: &Reply) -> Status
+    ensures ends { Finishes reply.now.status reply.now.line (S.written out.old) (S.written out.new)
+        (Rose (S.fault_count out.old) (S.fault_count out.new)) result }
+    ensures later { S.fault_count out.old ≤ S.fault_count out.new }
+{
+    match write_all(out, reply.line.as_str().as_bytes()) {
+        Written::All => reply.status,
+        Written::Fault => Status::Unwritten,
+        Written::Oom => Status::OutOfMemory,
+    }
+}
+
+/// Answers the words.
+fn answer<F: Files, S: Sink>(alloc: Global, words: &[Txt], files: &mut F, out: &mut S) -> Status
+    ensures says { Says words.now (F.held files.old) (Rose (F.fault_count files.old) (F.fault_count files.new))
+        (S.written out.old) (S.written out.new) (Rose (S.fault_count out.old) (S.fault_count out.new)) result }
+    ensures same { F.held files.new ≡ F.held files.old }
+    ensures later { (F.fault_count files.old ≤ F.fault_count files.new)
+        × (S.fault_count out.old ≤ S.fault_count out.new) }
+{
+    match reply_for(alloc, words, files) {
+        Ok(reply) => finish(out, &reply),
+        Err(Oom) => Status::OutOfMemory,
+    }
+}
+
+/// Does all that the program does: reads what the words name, writes the page or why there is none, and says
+/// with which status the process is to end.
+pub fn run<F: Files, S: Sink>(alloc: Global, words: &[Txt], files: &mut F, out: &mut S) -> Finished
+    // The page of the fresh rendering of the component that the file spells is written whole.
+    ensures rendered { result.status ≡ 0 → IsRendered words.now (F.held files.old) (S.written out.old) (S.written out.new) }
+
+    // Each refusal comes only for its cause, and its line is written whole.
+    ensures refused { result.status ≡ 1 → IsRefused words.now (F.held files.old) (S.written out.old) (S.written out.new) }
+    ensures misused { result.status ≡ 2 → IsMisused words.now (S.written out.old) (S.written out.new) }
+    ensures missing { result.status ≡ 4 → IsMissing words.now (F.held files.old) (S.written out.old) (S.written out.new) }
+    ensures too_large { result.status ≡ 8 → IsTooLarge words.now (F.held files.old) (S.written out.old) (S.written out.new) }
+
+    // The files failed, and their count of faults rose.
+    ensures unread { result.status ≡ 5
+        → IsUnread words.now (Rose (F.fault_count files.old) (F.fault_count files.new)) (S.written out.old) (S.written out.new) }
+
+    // Where writing stopped, a front of the line is written; 9 comes for want of memory alone.
+    ensures unwritten { result.status ≡ 6
+        → IsCutOff words.now (F.held files.old) (Rose (F.fault_count files.old) (F.fault_count files.new))
+        (S.written out.old) (S.written out.new)
+        × Rose (S.fault_count out.old) (S.fault_count out.new) }
+    ensures no_memory { result.status ≡ 9
+        → IsCutOff words.now (F.held files.old) (Rose (F.fault_count files.old) (F.fault_count files.new))
+        (S.written out.old) (S.written out.new)
+        ⊎ (S.written out.new ≡ S.written out.old) }
+
+    // There is no other status.
+    ensures no_other { IsStatus result.status }
+
+    // So a file that spells a component is rendered, unless a count of faults rises or memory runs out.
+    ensures completes { IsAccepted words.now (F.held files.old)
+        → (Rose (F.fault_count files.old) (F.fault_count files.new) → ⊥)
+        → (Rose (S.fault_count out.old) (S.fault_count out.new) → ⊥)
+        → (result.status ≡ 0) ⊎ (result.status ≡ 9) }
+    ensures same { F.held files.new ≡ F.held files.old }
+    ensures later { (F.fault_count files.old ≤ F.fault_count files.new)
+        × (S.fault_count out.old ≤ S.fault_count out.new) }
+{
+    Finished {
+        status: answer(alloc, words, files, out).code(),
+    }
+}
