@@ -1,0 +1,52 @@
+// Files at the limits of the form and of the program.
+use crate::support::page;
+use std::alloc::Global;
+use std::test::Fail;
+use text_core::Oom;
+
+fn repeat(text: &str, count: usize, out: &mut String) -> Result<(), Oom> {
+    for _ in 0..count {
+        out.push_str(text)?;
+    }
+    Ok(())
+}
+
+/// A text that is made of these, each so many times.
+fn made_of(alloc: Global, parts: &[(&str, usize)]) -> Result<String, Oom> {
+    let mut text = String::new(alloc);
+    for (part, count) in parts {
+        repeat(part, *count, &mut text)?;
+    }
+    Ok(text)
+}
+
+#[test]
+fn keeps_limits(rt: HostRuntime) -> Result<(), Fail> {
+    let alloc = rt.alloc();
+    for (parts, status) in [
+        ([("a", 65_536)].as_slice(), 0),
+        ([("a", 65_537)].as_slice(), 1),
+        ([("a", 1_048_576)].as_slice(), 1),
+        ([("a", 1_048_577)].as_slice(), 8),
+        ([("<b>", 100), ("</b>", 100)].as_slice(), 0),
+        ([("<b>", 101), ("</b>", 101)].as_slice(), 1),
+        ([("<b></b>", 1_000)].as_slice(), 0),
+        ([("<b></b>", 1_001)].as_slice(), 1),
+        ([("<b>x</b>", 500)].as_slice(), 0),
+        ([("<b>x</b>", 500), ("x", 1)].as_slice(), 1),
+        ([("@n ", 500), ("@code{int n=1;}", 1)].as_slice(), 0),
+        ([("@n ", 501), ("@code{int n=1;}", 1)].as_slice(), 1),
+    ] {
+        let ran = page(alloc, made_of(alloc, parts)?.as_str())?;
+        assert_eq!(rt; ran.status, status, "at {parts:?}");
+    }
+    Ok(())
+}
+
+#[test]
+fn says_which_file_is_too_large(rt: HostRuntime) -> Result<(), Fail> {
+    let alloc = rt.alloc();
+    let ran = page(alloc, made_of(alloc, &[("a", 1_048_577)])?.as_str())?;
+    assert_eq!(rt; ran.bytes.as_slice(), b"too large A.razor\n".as_slice());
+    Ok(())
+}

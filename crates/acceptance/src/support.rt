@@ -1,0 +1,42 @@
+// A run over one file in memory.
+use blazor_top::run;
+use outside::{MemFiles, MemSink};
+use std::alloc::Global;
+use text_core::{Oom, Txt};
+
+/// How a run ended, and what it wrote.
+#[derive(Debug, Drop)]
+pub struct Ran {
+    pub status: u8,
+    pub bytes: Vec<u8>,
+}
+
+/// These words as texts.
+pub fn texts(alloc: Global, words: &[&str]) -> Result<Vec<Txt>, Oom> {
+    let mut texts = Vec::new(alloc);
+    for word in words {
+        texts.push(Txt::from_str(alloc, word)?)?;
+    }
+    Ok(texts)
+}
+
+/// Files that hold one file, and whose calls of these numbers fail.
+pub fn files(alloc: Global, name: &str, text: &str, failing: Vec<u64>) -> Result<MemFiles, Oom> {
+    let mut files = MemFiles::new(alloc, failing);
+    files.put(Txt::from_str(alloc, name)?, text.as_bytes().to_vec(alloc)?)?;
+    Ok(files)
+}
+
+/// A run of these words over one file.
+pub fn outcome(alloc: Global, words: &[&str], name: &str, text: &str) -> Result<Ran, Oom> {
+    let mut files = files(alloc, name, text, Vec::new(alloc))?;
+    let mut out = MemSink::new(alloc, Vec::new(alloc));
+    let status = run(alloc, &texts(alloc, words)?, &mut files, &mut out).status;
+    let bytes = out.bytes().to_vec(alloc)?;
+    Ok(Ran { status, bytes })
+}
+
+/// The page of a file, or the line in its place.
+pub fn page(alloc: Global, text: &str) -> Result<Ran, Oom> {
+    outcome(alloc, &["render", "A.razor"], "A.razor", text)
+}
