@@ -4,9 +4,11 @@ use Rattle.std.specs.List.{list_all}
 use Rattle.blazor_top.specs.declared.first_page.characters.Class.{Class}
 use Rattle.blazor_top.specs.declared.first_page.characters.Class.TheVariants.{White, Upper, Lower, Letter, Word, Sign, Literal, Continuing, Plain}
 
+-- from low to high
 abbrev pub is_between : ℕ → ℕ → ℕ → Bool
 is_between low high c = nat_le low c && nat_le c high
 
+-- space, tab, line feed or carriage return
 abbrev pub is_white : ℕ → Bool
 is_white c = (c == 32) || (c == 9) || (c == 10) || (c == 13)
 
@@ -14,6 +16,7 @@ is_white c = (c == 32) || (c == 9) || (c == 10) || (c == 13)
 abbrev pub is_word : ℕ → Bool
 is_word c = is_between 65 90 c || is_between 97 122 c || is_between 48 57 c || (c == 95)
 
+-- of the class
 abbrev pub is_in : Class → ℕ → Bool
 is_in White c = is_white c
 is_in Upper c = is_between 65 90 c
@@ -34,10 +37,11 @@ pub record IsRun (class : Class) (text : List ℕ) : Type 0 where
   pub some : 0 < length text
   pub all : AreAll class text
 
+-- the first character is of the class
 abbrev pub begins_with : Class → List ℕ → Bool
 begins_with class [] = false
 begins_with class (c ∷ text) = is_in class c
 
--- of the empty text none is the last, and 0 is in no class that is asked for here
+-- the last character is of the class
 abbrev pub ends_with : Class → List ℕ → Bool
 ends_with class text = nat_le 1 (length text) && is_in class (slice_index text (length text - 1))

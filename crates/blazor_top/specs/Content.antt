@@ -14,6 +14,7 @@ use Rattle.blazor_top.specs.Fields.{has_field}
 use Rattle.blazor_top.specs.Names.{is_element_name}
 use Rattle.blazor_top.specs.Pieces.{Piece}
 
+-- of one layer: whether it is a text of white space alone
 abbrev pub blank_step : Item-F Bool → Bool
 blank_step (layer.Element name children) = false
 blank_step (layer.Literal text) = list_all (is_in class.White) text
@@ -23,10 +24,12 @@ blank_step (layer.Shown name) = false
 abbrev pub is_blank : Item → Bool
 is_blank = fold-Item Bool blank_step
 
+-- the items but the first, where that is white space alone
 abbrev pub without_first_blank : List Item → List Item
 without_first_blank [] = []
 without_first_blank (first ∷ items) = if is_blank first then items else first ∷ items
 
+-- the items but the last, where that is white space alone
 abbrev pub without_last_blank : List Item → List Item
 without_last_blank [] = []
 without_last_blank (last ∷ []) = if is_blank last then [] else last ∷ []

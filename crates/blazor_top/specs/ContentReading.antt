@@ -23,9 +23,11 @@ ends_blank [] = false
 ends_blank (last ∷ []) = is_blank last
 ends_blank (first ∷ second ∷ items) = ends_blank (second ∷ items)
 
+-- the elements that are open, and the items so far
 abbrev pub State : Type 0
 State = List Unclosed × List Item
 
+-- the state of a builder
 abbrev pub state_of : Builder → State
 state_of builder = (reverse builder.outer.items, builder.items)
 
@@ -33,6 +35,7 @@ state_of builder = (reverse builder.outer.items, builder.items)
 abbrev pub with_item : State → Item → State
 with_item s i = (s.0, s.1 ++ i ∷ [])
 
+-- an open element of this name, behind these items
 abbrev pub unclosed : List ℕ → List Item → Unclosed
 unclosed name before = record { name = name; before = before }
 
@@ -49,6 +52,7 @@ ended [] items name = None
 ended (last ∷ outer) items name =
     if bytes_eq last.name name then Some (outer, last.before ++ item.Element last.name (trimmed items) ∷ []) else None
 
+-- one more piece
 unfoldable pub taken : List Field → State → Piece → Option State
 taken fields s (Literal, text) = Some (with_item s (item.Literal text))
 taken fields s (Shown, name) = if has_field fields name then Some (with_item s (item.Shown name)) else None

@@ -9,6 +9,7 @@ use Rattle.blazor_top.specs.Pieces.{Piece, Moment, Stands}
 use Rattle.blazor_top.specs.Walks.{Walk}
 use Rattle.blazor_top.specs.Runs.{run_at, strip}
 
+-- what the function gives of the value, if there is one
 infixl 10 ◌>>=◌
 abbrev pub ◌>>=◌ : {A B : Type 0} → Option A → (A → Option B) → Option B
 (Some x) >>= f = f x
@@ -29,6 +30,7 @@ shown_at text =
     else if begins_with class.Continuing name.1 then None
     else Some ((Shown, name.0), (true, name.1))
 
+-- a literal text, as long as it goes
 unfoldable pub literal_at : List ℕ → Option (Piece × Moment)
 literal_at text = do
   run ← run_at class.Literal text
@@ -39,6 +41,7 @@ abbrev pub behind : {A : Type 0} → Option (List ℕ) → (List ℕ → A) → 
 behind (Some rest) found otherwise = found rest
 behind None found otherwise = otherwise
 
+-- the piece that stands first, and the moment behind it
 unfoldable pub piece_at : Moment → Option (Piece × Moment)
 piece_at at =
     behind (strip (codes "</") at.1) (tag_at Close)

@@ -4,6 +4,7 @@ use Rattle.std.specs.List.{insert}
 use Rattle.page_core.specs.declared.node.Node.{Node}
 use Rattle.blazor_top.specs.declared.rendering.Prepend.{Prepend}
 
+-- the edit that puts this node before that place
 abbrev pub prepend : ℕ → Node → Prepend
 prepend sibling node = record { sibling = sibling; node = node }
 

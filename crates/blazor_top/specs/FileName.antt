@@ -5,6 +5,7 @@ use Rattle.std.specs.Str.{bytes_eq}
 use Rattle.blazor_top.specs.declared.first_page.characters.Class.TheVariants as class
 use Rattle.blazor_top.specs.Characters.{is_in, begins_with}
 
+-- `/`
 abbrev pub is_slash : ℕ → Bool
 is_slash c = c == 47
 

@@ -18,6 +18,7 @@ reserved_words =
     ∷ codes "KeyboardEventArgs" ∷ codes "FocusEventArgs" ∷ codes "code" ∷ codes "using" ∷ codes "namespace"
     ∷ codes "implements" ∷ codes "page" ∷ codes "rendermode" ∷ []
 
+-- one of these words
 abbrev pub is_reserved : List ℕ → Bool
 is_reserved word = list_any (bytes_eq word) reserved_words
 

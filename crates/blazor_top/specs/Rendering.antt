@@ -23,9 +23,11 @@ fresh_layer born fields (item.Element name children) = roll-Node (node.Element b
 fresh_layer born fields (item.Literal text) = roll-Node (node.Text born text)
 fresh_layer born fields (item.Shown name) = roll-Node (node.Text born (field_text fields name))
 
+-- the node of an item
 abbrev pub fresh_node : ℕ → List Field → Item → Node
 fresh_node born fields = fold-Item Node (fresh_layer born fields)
 
+-- the nodes of items, one for each
 abbrev pub fresh_nodes : ℕ → List Field → List Item → List Node
 fresh_nodes born fields items = map (fresh_node born fields) items
 

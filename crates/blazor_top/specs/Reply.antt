@@ -37,6 +37,7 @@ FileSpells name bytes component = Spells (encode_utf8_all name) bytes component
 abbrev pub page_line : Component → List ℕ
 page_line component = nodes_text (fresh 1 component) ++ 10 ∷ []
 
+-- the line for words that are no command
 abbrev pub usage_line : List ℕ
 usage_line = codes "usage: blazor COMMAND ARGUMENTS" ++ 10 ∷ []
 

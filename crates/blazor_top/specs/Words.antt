@@ -3,6 +3,7 @@ use Rattle.std.specs.Prelude.{ℕ, Bool, false, List, [], ◌∷◌, Option, Som
 use Rattle.std.specs.Str.{bytes_eq}
 use Rattle.blazor_top.specs.Cutting.{◌>>=◌}
 
+-- the first character is `-`
 abbrev pub begins_with_dash : List ℕ → Bool
 begins_with_dash [] = false
 begins_with_dash (c ∷ word) = c == 45
@@ -15,12 +16,13 @@ names_in (word ∷ words) =
     else if begins_with_dash word then None
     else names_in words >>= λ names. Some (word ∷ names)
 
+-- the only one of these names
 abbrev pub the_one : List (List ℕ) → Option (List ℕ)
 the_one [] = None
 the_one (name ∷ []) = Some name
 the_one (name ∷ other ∷ names) = None
 
--- the name, where there is just one
+-- the only name among the words
 abbrev pub only_name : List (List ℕ) → Option (List ℕ)
 only_name words = names_in words >>= the_one
 

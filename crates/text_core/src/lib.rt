@@ -13,3 +13,6 @@ pub use decimal::{read_i32, show_i32};
 pub use oom::Oom;
 pub use place::Place;
 pub use text::Txt;
+
+#[cfg(test)]
+mod tests;
