@@ -5,7 +5,7 @@ use Rattle.blazor_top.specs.declared.status.Status.TheVariants.{Done, Refused, U
 use Rattle.blazor_top.specs.Reply.{Contents, Holds, Lacks, Exceeds, FileSpells, Replies, page, refused, usage, missing, unread, too_large}
 use Rattle.blazor_top.specs.Run.{Told, Writes, Says, IsAccepted, Finishes, whole, stopped, no_memory}
 use Rattle.blazor_top.specs.Status.{code_of}
-use Rattle.blazor_top.proofs.RunLemmas.{some_is}
+use Rattle.blazor_top.proofs.Reading.RunLemmas.{some_is}
 
 status_of : ℕ → Status
 status_of n =

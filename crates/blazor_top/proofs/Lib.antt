@@ -1,13 +1,4 @@
-pub mod RunLemmas
-pub mod WalkLemmas
-pub mod PieceLemmas
-pub mod CodeLemmas
-pub mod FieldLemmas
-pub mod ClosingLemmas
-pub mod TrimLemmas
-pub mod ContentLemmas
-pub mod FileNameLemmas
-pub mod SpellingLemmas
+pub mod Reading
 pub mod EditLemmas
 pub mod WordLemmas
 pub mod WritingLemmas

@@ -6,7 +6,7 @@ use Rattle.page_core.specs.Print.{nodes_text}
 use Rattle.blazor_top.specs.declared.first_page.component.Component.{Component}
 use Rattle.blazor_top.specs.declared.status.Status.{Status}
 use Rattle.blazor_top.specs.declared.status.Status.TheVariants as status
-use Rattle.blazor_top.specs.Component.{Spells}
+use Rattle.blazor_top.specs.FirstPage.Component.{Spells}
 use Rattle.blazor_top.specs.Rendering.{fresh}
 use Rattle.blazor_top.specs.Words.{rendered_file}
 

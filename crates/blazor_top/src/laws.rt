@@ -1,7 +1,7 @@
 // Laws of the definitions that contracts cite.
 ghost use Rattle.std.specs.Prelude.{◌≡◌, List, ℕ};
 ghost use Rattle.blazor_top.specs.declared.first_page.component.Component.{Component};
-ghost use Rattle.blazor_top.specs.Component.{Spells};
+ghost use Rattle.blazor_top.specs.FirstPage.Component.{Spells};
 
 /// A file spells at most one component. The function does nothing: its contract is the law.
 pub fn a_file_spells_one_component()

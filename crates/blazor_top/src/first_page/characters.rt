@@ -2,8 +2,8 @@
 ghost use Rattle.std.specs.Prelude.{◌≡◌, IfSome, ◌<◌, length};
 ghost use Rattle.std.specs.List.{list_all};
 ghost use Rattle.std.specs.Option.{option_map};
-ghost use Rattle.blazor_top.specs.Characters.{is_white, is_word, is_in, begins_with, ends_with};
-ghost use Rattle.blazor_top.specs.Runs.{front, past, run_at};
+ghost use Rattle.blazor_top.specs.FirstPage.Characters.{is_white, is_word, is_in, begins_with, ends_with};
+ghost use Rattle.blazor_top.specs.Reading.Runs.{front, past, run_at};
 
 /// A class of characters, each by its byte.
 #[derive(Clone, Copy, Debug, PartialEq, Eq)]
@@ -104,7 +104,7 @@ pub fn skip(class: Class, text: &[u8]) -> &[u8]
 }
 
 /// The longest front that is all of the class, if it isn't empty, and what stands behind it.
-#[tactic(auto, unfolding(crate::specs::Runs::run_at))]
+#[tactic(auto, unfolding(crate::specs::Reading::Runs::run_at))]
 pub fn run(class: Class, text: &[u8]) -> Option<(&[u8], &[u8])>
     ensures { option_map (λ found. (found.0.now, found.1.now)) result ≡ run_at class text.now }
 {

@@ -1,9 +1,9 @@
 // The code behind the content: `@code { .. }` with fields of type `int`.
 ghost use Rattle.std.specs.Prelude.{◌≡◌, [], map, IfOk, MatchOption};
 ghost use Rattle.std.specs.Option.{option_map};
-ghost use Rattle.blazor_top.specs.Code.{IsCode, IsBlock, Closes};
-ghost use Rattle.blazor_top.specs.Names.{is_field_name};
-ghost use Rattle.blazor_top.specs.CodeReading.{token_at, field_of, fields_behind, is_declaration, are_braces};
+ghost use Rattle.blazor_top.specs.FirstPage.Code.{IsCode, IsBlock, Closes};
+ghost use Rattle.blazor_top.specs.FirstPage.Names.{is_field_name};
+ghost use Rattle.blazor_top.specs.Reading.Code.{token_at, field_of, fields_behind, is_declaration, are_braces};
 
 use super::characters::{Class, are_all, begins, run, skip};
 use super::component::{Field, has_field};
@@ -14,7 +14,7 @@ use std::alloc::Global;
 use text_core::{Oom, Txt, read_i32};
 
 /// The token that stands first behind white space, and what stands behind it.
-#[tactic(auto, unfolding(crate::specs::CodeReading::token_at))]
+#[tactic(auto, unfolding(crate::specs::Reading::Code::token_at))]
 fn cut_token(text: &[u8]) -> Option<(&[u8], &[u8])>
     ensures { option_map (λ cut. (cut.0.now, cut.1.now)) result ≡ token_at text.now }
 {
@@ -57,7 +57,7 @@ fn is_field_name(word: &[u8], name: &Txt) -> bool
 }
 
 /// The field of this name and number, if they may be one.
-#[tactic(auto, unfolding(crate::specs::CodeReading::field_of))]
+#[tactic(auto, unfolding(crate::specs::Reading::Code::field_of))]
 fn field_of(alloc: Global, name: &[u8], digits: &[u8]) -> Result<Option<Field>, Oom>
     ensures { IfOk result (λ found. found ≡ field_of name.now digits.now) }
 {
@@ -74,7 +74,7 @@ fn field_of(alloc: Global, name: &[u8], digits: &[u8]) -> Result<Option<Field>, 
 }
 
 /// The fields that tokens declare, if they are declarations of fields with differing names.
-#[tactic(auto, unfolding(crate::specs::CodeReading::fields_behind))]
+#[tactic(auto, unfolding(crate::specs::Reading::Code::fields_behind))]
 fn fields_of(alloc: Global, tokens: &[&[u8]]) -> Result<Option<Items<Field>>, Oom>
     ensures { IfOk result (λ found. found ≡ fields_behind [] (map (λ token. token.now) tokens.now)) }
 {

@@ -1,6 +1,6 @@
 // The trees of components.
 ghost use Rattle.std.specs.Prelude.{◌≡◌};
-ghost use Rattle.blazor_top.specs.Fields.{field, has_field};
+ghost use Rattle.blazor_top.specs.FirstPage.Fields.{field, has_field};
 
 use sqlite_items::Items;
 use text_core::Txt;

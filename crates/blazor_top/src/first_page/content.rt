@@ -2,10 +2,10 @@
 ghost use Rattle.std.specs.Prelude.{◌≡◌, [], map, Some, IfOk, MatchOption};
 ghost use Rattle.std.specs.List.{list_all};
 ghost use Rattle.std.specs.Option.{option_map};
-ghost use Rattle.blazor_top.specs.Characters.{is_white};
-ghost use Rattle.blazor_top.specs.PieceViews.{piece_of};
-ghost use Rattle.blazor_top.specs.Content.{is_blank, without_first_blank, without_last_blank, trimmed, Spelled, SpellsTree};
-ghost use Rattle.blazor_top.specs.ContentReading.{begins_blank, ends_blank, state_of, with_item, started, ended, taken, finished, built};
+ghost use Rattle.blazor_top.specs.FirstPage.Characters.{is_white};
+ghost use Rattle.blazor_top.specs.Reading.PieceViews.{piece_of};
+ghost use Rattle.blazor_top.specs.FirstPage.Content.{is_blank, without_first_blank, without_last_blank, trimmed, Spelled, SpellsTree};
+ghost use Rattle.blazor_top.specs.Reading.Content.{begins_blank, ends_blank, state_of, with_item, started, ended, taken, finished, built};
 
 use super::component::{Field, Item, has_field};
 use super::names::is_element_name;
@@ -105,7 +105,7 @@ impl Builder {
         Ok(Some(Builder { outer, items }))
     }
 
-    #[tactic(auto, unfolding(crate::specs::ContentReading::started))]
+    #[tactic(auto, unfolding(crate::specs::Reading::Content::started))]
     fn started(self, alloc: Global, name: Txt) -> Result<Option<Self>, Oom>
         ensures { IfOk result (λ found. option_map state_of found ≡ started (state_of self) name) }
     {
@@ -126,7 +126,7 @@ impl Builder {
         }))
     }
 
-    #[tactic(auto, unfolding(crate::specs::ContentReading::ended))]
+    #[tactic(auto, unfolding(crate::specs::Reading::Content::ended))]
     fn ended(self, name: &Txt) -> Result<Option<Self>, Oom>
         ensures { IfOk result (λ found. option_map state_of found ≡ ended (state_of self).0 (state_of self).1 name.now) }
     {
@@ -158,7 +158,7 @@ impl Builder {
     }
 
     /// The builder behind one more piece, if the piece may stand there.
-    #[tactic(auto, unfolding(crate::specs::ContentReading::taken))]
+    #[tactic(auto, unfolding(crate::specs::Reading::Content::taken))]
     fn taken(self, alloc: Global, fields: &[Field], piece: Piece<'_>) -> Result<Option<Self>, Oom>
         ensures { IfOk result
             (λ found. option_map state_of found ≡ taken fields.now (state_of self) (piece_of piece.entry)) }

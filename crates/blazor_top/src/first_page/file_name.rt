@@ -1,6 +1,6 @@
 // The name that a component's file has.
 ghost use Rattle.std.specs.Prelude.{◌≡◌, ◌↔◌, ◌+◌, ◌<◌, ◌^◌, IsTrue, IfSome, position};
-ghost use Rattle.blazor_top.specs.FileName.{is_slash, base_name, is_component_name, NamesComponent};
+ghost use Rattle.blazor_top.specs.FirstPage.FileName.{is_slash, base_name, is_component_name, NamesComponent};
 
 use super::characters::{Class, are_all, begins};
 

@@ -1,6 +1,6 @@
 // Which names elements and fields may have.
 ghost use Rattle.std.specs.Prelude.{◌≡◌};
-ghost use Rattle.blazor_top.specs.Names.{is_reserved, is_element_name};
+ghost use Rattle.blazor_top.specs.FirstPage.Names.{is_reserved, is_element_name};
 
 use page_core::is_void;
 use text_core::Txt;

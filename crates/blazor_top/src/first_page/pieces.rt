@@ -1,9 +1,9 @@
 // The pieces of content: tags, literal texts and shown fields, one after another.
 ghost use Rattle.std.specs.Prelude.{◌≡◌, map, IfOk};
 ghost use Rattle.std.specs.Option.{option_map};
-ghost use Rattle.blazor_top.specs.Runs.{strip};
-ghost use Rattle.blazor_top.specs.PieceViews.{piece_of};
-ghost use Rattle.blazor_top.specs.Cutting.{tag_at, shown_at, literal_at, piece_at, CutsUp};
+ghost use Rattle.blazor_top.specs.Reading.Runs.{strip};
+ghost use Rattle.blazor_top.specs.Reading.PieceViews.{piece_of};
+ghost use Rattle.blazor_top.specs.Reading.Cutting.{tag_at, shown_at, literal_at, piece_at, CutsUp};
 
 use super::characters::{Class, begins, ends, run};
 use std::alloc::Global;
@@ -37,7 +37,7 @@ pub struct Reached<'a> {
 }
 
 /// What stands behind this front.
-#[tactic(auto, unfolding(crate::specs::Runs::strip))]
+#[tactic(auto, unfolding(crate::specs::Reading::Runs::strip))]
 pub(super) fn after<'a>(front: &[u8], text: &'a [u8]) -> Option<&'a [u8]>
     ensures { option_map (λ rest. rest.now) result ≡ strip front.now text.now }
 {
@@ -45,7 +45,7 @@ pub(super) fn after<'a>(front: &[u8], text: &'a [u8]) -> Option<&'a [u8]>
 }
 
 /// The rest of a tag, from its name on.
-#[tactic(auto, unfolding(crate::specs::Cutting::tag_at))]
+#[tactic(auto, unfolding(crate::specs::Reading::Cutting::tag_at))]
 fn cut_tag(kind: PieceKind, text: &[u8]) -> Option<(Piece<'_>, Reached<'_>)>
     ensures { option_map (λ cut. ((cut.0.kind, cut.0.text.now), (cut.1.after_word, cut.1.rest.now))) result
         ≡ tag_at kind text.now }
@@ -62,7 +62,7 @@ fn cut_tag(kind: PieceKind, text: &[u8]) -> Option<(Piece<'_>, Reached<'_>)>
 }
 
 /// A shown field, from its name on. `@code` isn't one.
-#[tactic(auto, unfolding(crate::specs::Cutting::shown_at))]
+#[tactic(auto, unfolding(crate::specs::Reading::Cutting::shown_at))]
 fn cut_shown(text: &[u8]) -> Option<(Piece<'_>, Reached<'_>)>
     ensures { option_map (λ cut. ((cut.0.kind, cut.0.text.now), (cut.1.after_word, cut.1.rest.now))) result
         ≡ shown_at text.now }
@@ -87,7 +87,7 @@ fn cut_shown(text: &[u8]) -> Option<(Piece<'_>, Reached<'_>)>
 }
 
 /// A literal text, as long as it goes.
-#[tactic(auto, unfolding(crate::specs::Cutting::literal_at))]
+#[tactic(auto, unfolding(crate::specs::Reading::Cutting::literal_at))]
 fn cut_literal(text: &[u8]) -> Option<(Piece<'_>, Reached<'_>)>
     ensures { option_map (λ cut. ((cut.0.kind, cut.0.text.now), (cut.1.after_word, cut.1.rest.now))) result
         ≡ literal_at text.now }
@@ -106,7 +106,7 @@ fn cut_literal(text: &[u8]) -> Option<(Piece<'_>, Reached<'_>)>
 }
 
 /// The piece that stands at the front, if one does.
-#[tactic(auto, unfolding(crate::specs::Cutting::piece_at))]
+#[tactic(auto, unfolding(crate::specs::Reading::Cutting::piece_at))]
 fn cut_piece(at: Reached<'_>) -> Option<(Piece<'_>, Reached<'_>)>
     ensures { option_map (λ cut. ((cut.0.kind, cut.0.text.now), (cut.1.after_word, cut.1.rest.now))) result
         ≡ piece_at (at.entry.after_word, at.entry.rest.now) }

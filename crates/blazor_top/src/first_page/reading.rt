@@ -1,9 +1,9 @@
 // From a file to the component that it spells.
 ghost use Rattle.std.specs.Prelude.{◌≡◌, ◌↔◌, ◌≤◌, IsTrue, count_by, map, length, encode_utf8_all, IfOk, MatchOption};
 ghost use Rattle.blazor_top.specs.declared.first_page.characters.Class.TheVariants as class;
-ghost use Rattle.blazor_top.specs.Characters.{AreAll};
-ghost use Rattle.blazor_top.specs.Component.{counts, Spells};
-ghost use Rattle.blazor_top.specs.PieceViews.{piece_of};
+ghost use Rattle.blazor_top.specs.FirstPage.Characters.{AreAll};
+ghost use Rattle.blazor_top.specs.FirstPage.Component.{counts, Spells};
+ghost use Rattle.blazor_top.specs.Reading.PieceViews.{piece_of};
 
 use super::characters::{Class, are_all};
 use super::code::declared;

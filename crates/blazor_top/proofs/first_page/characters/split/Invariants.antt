@@ -1,5 +1,5 @@
 use Rattle.std.proofs.Common.{◌≡◌, ◌++◌, take, drop}
-use Rattle.blazor_top.specs.Runs.{front, past}
+use Rattle.blazor_top.specs.Reading.Runs.{front, past}
 use Rattle.blazor_top.proofs.first_page.characters.split.Given as goal
 
 abbrev pub invariant-loop-at : goal.invariant-loop-at

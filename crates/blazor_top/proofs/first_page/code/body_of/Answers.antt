@@ -1,5 +1,5 @@
 use Rattle.std.proofs.Common.{[], ◌∙◌, sym}
-use Rattle.blazor_top.proofs.ClosingLemmas.{in_braces}
+use Rattle.blazor_top.proofs.Reading.ClosingLemmas.{in_braces}
 use Rattle.blazor_top.proofs.first_page.code.body_of.Goals as goal
 
 pub returns-then-are_braces : goal.returns-then-are_braces

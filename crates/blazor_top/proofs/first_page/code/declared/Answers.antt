@@ -1,5 +1,5 @@
 use Rattle.std.proofs.Common.{◌∙◌, sym}
-use Rattle.blazor_top.proofs.ClosingLemmas.{only_section, no_code, no_block, closing}
+use Rattle.blazor_top.proofs.Reading.ClosingLemmas.{only_section, no_code, no_block, closing}
 use Rattle.blazor_top.proofs.first_page.code.declared.Goals as goal
 
 pub returns-in_default : goal.returns-in_default

@@ -1,6 +1,6 @@
 use Rattle.std.proofs.Common.{◌∙◌, sym, ap, []}
-use Rattle.blazor_top.specs.Fields.{has_field}
-use Rattle.blazor_top.proofs.FieldLemmas.{one_declaration}
+use Rattle.blazor_top.specs.FirstPage.Fields.{has_field}
+use Rattle.blazor_top.proofs.Reading.FieldLemmas.{one_declaration}
 use Rattle.blazor_top.proofs.first_page.code.fields_of.Goals as goal
 
 pub loop-rest-preserved : goal.loop-rest-preserved

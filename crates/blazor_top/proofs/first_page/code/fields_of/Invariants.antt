@@ -1,6 +1,6 @@
 use Rattle.std.proofs.Common.{◌≡◌, [], List, ℕ, map, length}
 use Rattle.std.specs.Borrow.{Bor}
-use Rattle.blazor_top.specs.CodeReading.{fields_behind}
+use Rattle.blazor_top.specs.Reading.Code.{fields_behind}
 use Rattle.blazor_top.proofs.first_page.code.fields_of.Given as goal
 
 -- the rest declares behind the fields so far what the tokens declare

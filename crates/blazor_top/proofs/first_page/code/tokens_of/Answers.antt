@@ -1,10 +1,10 @@
 use Rattle.std.proofs.Common.{◌∷◌, [], sym, List, ℕ}
 use Rattle.std.specs.Borrow.{Bor}
 use Rattle.std.proofs.lemmas.List.{map-append}
-use Rattle.blazor_top.specs.Walks.{stay}
-use Rattle.blazor_top.specs.Code.{TokenStands}
-use Rattle.blazor_top.proofs.WalkLemmas.{walk-more}
-use Rattle.blazor_top.proofs.CodeLemmas.{token_at-some, token-shorter, token_at-none}
+use Rattle.blazor_top.specs.FirstPage.Walks.{stay}
+use Rattle.blazor_top.specs.FirstPage.Code.{TokenStands}
+use Rattle.blazor_top.proofs.Reading.WalkLemmas.{walk-more}
+use Rattle.blazor_top.proofs.Reading.CodeLemmas.{token_at-some, token-shorter, token_at-none}
 use Rattle.blazor_top.proofs.first_page.code.tokens_of.Goals as goal
 
 pub loop-token-init : goal.loop-token-init

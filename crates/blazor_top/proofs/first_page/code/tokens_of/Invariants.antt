@@ -1,6 +1,6 @@
 use Rattle.std.proofs.Common.{map, length}
-use Rattle.blazor_top.specs.Walks.{Walk}
-use Rattle.blazor_top.specs.Code.{TokenStands}
+use Rattle.blazor_top.specs.FirstPage.Walks.{Walk}
+use Rattle.blazor_top.specs.FirstPage.Code.{TokenStands}
 use Rattle.blazor_top.proofs.first_page.code.tokens_of.Given as goal
 
 -- the tokens so far lead to here

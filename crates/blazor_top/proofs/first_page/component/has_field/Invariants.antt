@@ -1,5 +1,5 @@
 use Rattle.std.proofs.Common.{◌≡◌, drop}
-use Rattle.blazor_top.specs.Fields.{has_field}
+use Rattle.blazor_top.specs.FirstPage.Fields.{has_field}
 use Rattle.blazor_top.proofs.first_page.component.has_field.Given as goal
 
 abbrev pub invariant-loop-field : goal.invariant-loop-field

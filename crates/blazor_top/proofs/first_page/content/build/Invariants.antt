@@ -1,6 +1,6 @@
 use Rattle.std.proofs.Common.{◌≡◌, [], map, drop}
-use Rattle.blazor_top.specs.PieceViews.{piece_of}
-use Rattle.blazor_top.specs.ContentReading.{state_of, built}
+use Rattle.blazor_top.specs.Reading.PieceViews.{piece_of}
+use Rattle.blazor_top.specs.Reading.Content.{state_of, built}
 use Rattle.blazor_top.proofs.first_page.content.build.Given as goal
 
 -- from here on the pieces that are left build what all pieces build

@@ -1,7 +1,7 @@
 use Rattle.std.proofs.Common.{◌≡◌, ◌-◌, true, false, ◌∙◌, sym, ap}
 use Rattle.std.specs.List.{remove}
-use Rattle.blazor_top.specs.ContentReading.{ends_blank}
-use Rattle.blazor_top.proofs.TrimLemmas.{remove-last, without_last_blank-kept}
+use Rattle.blazor_top.specs.Reading.Content.{ends_blank}
+use Rattle.blazor_top.proofs.Reading.TrimLemmas.{remove-last, without_last_blank-kept}
 use Rattle.blazor_top.proofs.first_page.content.drop_last_blank.Goals as goal
 
 pub returns-then-ends_blank : goal.returns-then-ends_blank

@@ -1,6 +1,6 @@
 use Rattle.std.proofs.Common.{◌∙◌, sym, ap}
-use Rattle.blazor_top.specs.Content.{is_blank}
-use Rattle.blazor_top.proofs.TrimLemmas.{ends_blank-at}
+use Rattle.blazor_top.specs.FirstPage.Content.{is_blank}
+use Rattle.blazor_top.proofs.Reading.TrimLemmas.{ends_blank-at}
 use Rattle.blazor_top.proofs.first_page.content.ends_blank.Goals as goal
 
 pub returns-in-len1-up : goal.returns-in-len1-up

@@ -3,7 +3,7 @@ use Rattle.std.specs.List.{list_all}
 use Rattle.std.specs.Str.{chars}
 use Rattle.std.proofs.lemmas.Iterator.{YieldsList-from_chars}
 use Rattle.std.proofs.lemmas.Iterator.Search.{all_from_yields_List}
-use Rattle.blazor_top.specs.Characters.{is_white}
+use Rattle.blazor_top.specs.FirstPage.Characters.{is_white}
 use Rattle.blazor_top.proofs.first_page.content.is_white_text.Goals as goal
 
 pub returns : goal.returns

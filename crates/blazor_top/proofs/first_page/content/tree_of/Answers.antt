@@ -1,7 +1,7 @@
 use Rattle.std.proofs.Common.{◌∙◌, sym, ap}
 use Rattle.std.specs.Option.{option_map}
-use Rattle.blazor_top.specs.ContentReading.{state_of}
-use Rattle.blazor_top.proofs.ContentLemmas.{tree_built, not_built}
+use Rattle.blazor_top.specs.Reading.Content.{state_of}
+use Rattle.blazor_top.proofs.Reading.ContentLemmas.{tree_built, not_built}
 use Rattle.blazor_top.proofs.first_page.content.tree_of.Goals as goal
 
 pub returns-in-Some : goal.returns-in-Some

@@ -1,8 +1,8 @@
 use Rattle.std.proofs.Common.{◌+◌, ◌∙◌, sym, ap}
 use Rattle.std.proofs.lemmas.List.Quantifiers.{position-Some}
 use Rattle.std.proofs.lemmas.List.{take_rest}
-use Rattle.blazor_top.specs.FileName.{is_slash, base_name}
-use Rattle.blazor_top.proofs.FileNameLemmas.{base_name-cut, base_name-plain}
+use Rattle.blazor_top.specs.FirstPage.FileName.{is_slash, base_name}
+use Rattle.blazor_top.proofs.Reading.FileNameLemmas.{base_name-cut, base_name-plain}
 use Rattle.blazor_top.proofs.first_page.file_name.base_name.Goals as goal
 
 pub loop-slash-preserved : goal.loop-slash-preserved

@@ -1,5 +1,5 @@
 use Rattle.std.proofs.Common.{◌≡◌, length}
-use Rattle.blazor_top.specs.FileName.{base_name}
+use Rattle.blazor_top.specs.FirstPage.FileName.{base_name}
 use Rattle.blazor_top.proofs.first_page.file_name.base_name.Given as goal
 
 abbrev pub invariant-loop-slash : goal.invariant-loop-slash

@@ -1,4 +1,4 @@
-use Rattle.blazor_top.proofs.FileNameLemmas.{with_ending}
+use Rattle.blazor_top.proofs.Reading.FileNameLemmas.{with_ending}
 use Rattle.blazor_top.proofs.first_page.file_name.names_component.Goals as goal
 
 pub returns-in-Some : goal.returns-in-Some

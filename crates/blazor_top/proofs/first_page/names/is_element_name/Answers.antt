@@ -1,7 +1,7 @@
 use Rattle.std.proofs.Common.{◌≡◌, false, refl, ap, sym, ◌∙◌}
 use Rattle.std.specs.Prelude.{not}
 use Rattle.page_core.specs.Void.{is_void}
-use Rattle.blazor_top.specs.Names.{kept_names}
+use Rattle.blazor_top.specs.FirstPage.Names.{kept_names}
 use Rattle.blazor_top.proofs.first_page.names.is_element_name.Goals as goal
 
 pub returns-then-not-is_void : goal.returns-then-not-is_void

@@ -1,5 +1,5 @@
 use Rattle.std.proofs.Common.{refl}
-use Rattle.blazor_top.specs.Names.{reserved_words}
+use Rattle.blazor_top.specs.FirstPage.Names.{reserved_words}
 use Rattle.blazor_top.proofs.first_page.names.is_reserved.Goals as goal
 
 pub returns : goal.returns

@@ -1,10 +1,10 @@
 use Rattle.std.proofs.Common.{◌∷◌, [], sym}
 use Rattle.std.proofs.lemmas.List.{map-append}
-use Rattle.blazor_top.specs.Walks.{stay}
-use Rattle.blazor_top.specs.Pieces.{Stands}
-use Rattle.blazor_top.specs.PieceViews.{piece_of}
-use Rattle.blazor_top.proofs.WalkLemmas.{walk-more}
-use Rattle.blazor_top.proofs.PieceLemmas.{piece_at-some, shorter}
+use Rattle.blazor_top.specs.FirstPage.Walks.{stay}
+use Rattle.blazor_top.specs.FirstPage.Pieces.{Stands}
+use Rattle.blazor_top.specs.Reading.PieceViews.{piece_of}
+use Rattle.blazor_top.proofs.Reading.WalkLemmas.{walk-more}
+use Rattle.blazor_top.proofs.Reading.PieceLemmas.{piece_at-some, shorter}
 use Rattle.blazor_top.proofs.first_page.pieces.cut.Goals as goal
 
 pub loop-piece-init : goal.loop-piece-init

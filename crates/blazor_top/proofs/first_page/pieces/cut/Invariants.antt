@@ -1,7 +1,7 @@
 use Rattle.std.proofs.Common.{map, length, false}
-use Rattle.blazor_top.specs.Walks.{Walk}
-use Rattle.blazor_top.specs.Pieces.{Stands}
-use Rattle.blazor_top.specs.PieceViews.{piece_of}
+use Rattle.blazor_top.specs.FirstPage.Walks.{Walk}
+use Rattle.blazor_top.specs.FirstPage.Pieces.{Stands}
+use Rattle.blazor_top.specs.Reading.PieceViews.{piece_of}
 use Rattle.blazor_top.proofs.first_page.pieces.cut.Given as goal
 
 -- the pieces so far lead to here

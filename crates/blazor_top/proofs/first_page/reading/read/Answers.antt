@@ -1,5 +1,5 @@
 use Rattle.std.proofs.lemmas.Bool.{false≢true}
-use Rattle.blazor_top.proofs.SpellingLemmas.{too_many, other_end, no_tree}
+use Rattle.blazor_top.proofs.Reading.SpellingLemmas.{too_many, other_end, no_tree}
 use Rattle.blazor_top.proofs.first_page.reading.read.Goals as goal
 
 pub returns-then-not-are_few : goal.returns-then-not-are_few

@@ -9,10 +9,10 @@ use Rattle.blazor_top.specs.declared.first_page.component.Item.TheFolds.{fold-It
 use Rattle.blazor_top.specs.declared.first_page.component.Item.TheOpen.{Item-F}
 use Rattle.blazor_top.specs.declared.first_page.component.Item.TheOpen as layer
 use Rattle.blazor_top.specs.declared.first_page.pieces.PieceKind.TheVariants.{Open, Close, Literal, Shown}
-use Rattle.blazor_top.specs.Characters.{is_in}
-use Rattle.blazor_top.specs.Fields.{has_field}
-use Rattle.blazor_top.specs.Names.{is_element_name}
-use Rattle.blazor_top.specs.Pieces.{Piece}
+use Rattle.blazor_top.specs.FirstPage.Characters.{is_in}
+use Rattle.blazor_top.specs.FirstPage.Fields.{has_field}
+use Rattle.blazor_top.specs.FirstPage.Names.{is_element_name}
+use Rattle.blazor_top.specs.FirstPage.Pieces.{Piece}
 
 -- of one layer: whether it is a text of white space alone
 abbrev pub blank_step : Item-F Bool → Bool

@@ -4,7 +4,7 @@ use Rattle.std.specs.List.{list_any, list_all}
 use Rattle.std.specs.Str.{bytes_eq}
 use Rattle.page_core.specs.Void.{is_void}
 use Rattle.blazor_top.specs.declared.first_page.characters.Class.TheVariants as class
-use Rattle.blazor_top.specs.Characters.{is_in}
+use Rattle.blazor_top.specs.FirstPage.Characters.{is_in}
 
 -- the words of C# that are no names, and those that begin a directive
 unfoldable pub reserved_words : List (List ℕ)

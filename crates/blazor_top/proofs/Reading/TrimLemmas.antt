@@ -2,8 +2,8 @@
 use Rattle.std.proofs.Common.{◌≡◌, ◌-◌, ◌<◌, suc, true, false, List, [], ◌∷◌, length, get_or, refl, ap, arith}
 use Rattle.std.specs.List.{remove}
 use Rattle.blazor_top.specs.declared.first_page.component.Item.{Item}
-use Rattle.blazor_top.specs.Content.{is_blank, without_last_blank}
-use Rattle.blazor_top.specs.ContentReading.{ends_blank}
+use Rattle.blazor_top.specs.FirstPage.Content.{is_blank, without_last_blank}
+use Rattle.blazor_top.specs.Reading.Content.{ends_blank}
 
 pub ends_blank-at : (items : List Item) (d : Item) → 0 < length items → ends_blank items ≡ is_blank (get_or items (length items - 1) d)
 ends_blank-at [] d some = absurd (omega arith)

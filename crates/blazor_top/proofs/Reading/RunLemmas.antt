@@ -8,9 +8,9 @@ use Rattle.std.proofs.lemmas.Bool.{and_parts, and_from, eqb-false, ne_eqb, cases
 use Rattle.std.proofs.Math.Seq.{take-append_seam, drop-append_seam}
 use Rattle.std.proofs.lemmas.List.{take-append-drop}
 use Rattle.blazor_top.specs.declared.first_page.characters.Class.{Class}
-use Rattle.blazor_top.specs.Characters.{is_in, AreAll, IsRun, begins_with}
-use Rattle.blazor_top.specs.Runs.{front, past, run_at, strip}
-use Rattle.blazor_top.specs.Cutting.{◌>>=◌}
+use Rattle.blazor_top.specs.FirstPage.Characters.{is_in, AreAll, IsRun, begins_with}
+use Rattle.blazor_top.specs.Reading.Runs.{front, past, run_at, strip}
+use Rattle.blazor_top.specs.Options.{◌>>=◌}
 
 -- options
 

@@ -8,7 +8,7 @@ use Rattle.std.proofs.lemmas.List.{take-append-drop}
 use Rattle.std.specs.List.{list_any, position_or_len}
 use Rattle.std.proofs.lemmas.Bool.{cases_Bool, lt-ltb}
 use Rattle.std.proofs.lemmas.List.Folds.{list_any_at}
-use Rattle.blazor_top.specs.FileName.{is_slash, base_name, is_component_name, NamesComponent}
+use Rattle.blazor_top.specs.FirstPage.FileName.{is_slash, base_name, is_component_name, NamesComponent}
 
 any_first : (path : List ℕ) → list_any is_slash path ≡ true → position_or_len is_slash path < length path
 any_first [] e = absurd (cc)

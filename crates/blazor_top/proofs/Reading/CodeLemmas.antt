@@ -5,12 +5,12 @@ use Rattle.std.specs.List.{list_all}
 use Rattle.std.proofs.lemmas.Bool.{and_parts, and_from, cases_Bool, ne_eqb}
 use Rattle.std.proofs.lemmas.Bool.Decides.{nat_tests}
 use Rattle.blazor_top.specs.declared.first_page.characters.Class.TheVariants as class
-use Rattle.blazor_top.specs.Characters.{is_in, AreAll, IsRun, begins_with}
-use Rattle.blazor_top.specs.Runs.{front, past, run_at}
-use Rattle.blazor_top.specs.Code.{TokenStands, word, sign, IsCode}
-use Rattle.blazor_top.specs.CodeReading.{sign_at, token_at}
-use Rattle.blazor_top.proofs.RunLemmas.{some_is, run-some, run-again, past-again, skipped}
-use Rattle.blazor_top.proofs.WalkLemmas.{same_walk}
+use Rattle.blazor_top.specs.FirstPage.Characters.{is_in, AreAll, IsRun, begins_with}
+use Rattle.blazor_top.specs.Reading.Runs.{front, past, run_at}
+use Rattle.blazor_top.specs.FirstPage.Code.{TokenStands, word, sign, IsCode}
+use Rattle.blazor_top.specs.Reading.Code.{sign_at, token_at}
+use Rattle.blazor_top.proofs.Reading.RunLemmas.{some_is, run-some, run-again, past-again, skipped}
+use Rattle.blazor_top.proofs.Reading.WalkLemmas.{same_walk}
 
 -- a token
 

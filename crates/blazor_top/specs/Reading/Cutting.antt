@@ -4,16 +4,11 @@ use Rattle.std.specs.Str.{bytes_eq}
 use Rattle.blazor_top.specs.declared.first_page.characters.Class.TheVariants as class
 use Rattle.blazor_top.specs.declared.first_page.pieces.PieceKind.{PieceKind}
 use Rattle.blazor_top.specs.declared.first_page.pieces.PieceKind.TheVariants.{Open, Close, Literal, Shown}
-use Rattle.blazor_top.specs.Characters.{begins_with, ends_with}
-use Rattle.blazor_top.specs.Pieces.{Piece, Moment, Stands}
-use Rattle.blazor_top.specs.Walks.{Walk}
-use Rattle.blazor_top.specs.Runs.{run_at, strip}
-
--- what the function gives of the value, if there is one
-infixl 10 ◌>>=◌
-abbrev pub ◌>>=◌ : {A B : Type 0} → Option A → (A → Option B) → Option B
-(Some x) >>= f = f x
-None >>= f = None
+use Rattle.blazor_top.specs.Options.{◌>>=◌}
+use Rattle.blazor_top.specs.FirstPage.Characters.{begins_with, ends_with}
+use Rattle.blazor_top.specs.FirstPage.Pieces.{Piece, Moment, Stands}
+use Rattle.blazor_top.specs.FirstPage.Walks.{Walk}
+use Rattle.blazor_top.specs.Reading.Runs.{run_at, strip}
 
 -- the rest of a tag, from its name on
 unfoldable pub tag_at : PieceKind → List ℕ → Option (Piece × Moment)

@@ -3,12 +3,12 @@ use Rattle.std.specs.Prelude.{ℕ, ◌≤◌, Bool, true, false, List, length, c
 use Rattle.blazor_top.specs.declared.first_page.characters.Class.TheVariants as class
 use Rattle.blazor_top.specs.declared.first_page.component.Component.{Component}
 use Rattle.blazor_top.specs.declared.first_page.pieces.PieceKind.TheVariants.{Open, Close, Literal, Shown}
-use Rattle.blazor_top.specs.Characters.{AreAll}
-use Rattle.blazor_top.specs.Code.{Closes}
-use Rattle.blazor_top.specs.Content.{SpellsTree}
-use Rattle.blazor_top.specs.FileName.{NamesComponent}
-use Rattle.blazor_top.specs.Pieces.{Piece, Moment, Stands}
-use Rattle.blazor_top.specs.Walks.{Walk}
+use Rattle.blazor_top.specs.FirstPage.Characters.{AreAll}
+use Rattle.blazor_top.specs.FirstPage.Code.{Closes}
+use Rattle.blazor_top.specs.FirstPage.Content.{SpellsTree}
+use Rattle.blazor_top.specs.FirstPage.FileName.{NamesComponent}
+use Rattle.blazor_top.specs.FirstPage.Pieces.{Piece, Moment, Stands}
+use Rattle.blazor_top.specs.FirstPage.Walks.{Walk}
 
 -- a start tag, a text or a shown field
 abbrev pub counts : Piece → Bool

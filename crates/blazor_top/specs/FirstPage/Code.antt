@@ -3,11 +3,11 @@ use Rattle.std.specs.Prelude.{◌≡◌, ℕ, ℤ, true, false, List, [], ◌∷
 use Rattle.text_core.specs.Decimal.{i32_of}
 use Rattle.blazor_top.specs.declared.first_page.characters.Class.TheVariants as class
 use Rattle.blazor_top.specs.declared.first_page.component.Field.{Field}
-use Rattle.blazor_top.specs.Characters.{is_in, AreAll, IsRun, begins_with}
-use Rattle.blazor_top.specs.Fields.{has_field, field}
-use Rattle.blazor_top.specs.Names.{is_field_name}
-use Rattle.blazor_top.specs.Pieces.{Moment}
-use Rattle.blazor_top.specs.Walks.{Walk}
+use Rattle.blazor_top.specs.FirstPage.Characters.{is_in, AreAll, IsRun, begins_with}
+use Rattle.blazor_top.specs.FirstPage.Fields.{has_field, field}
+use Rattle.blazor_top.specs.FirstPage.Names.{is_field_name}
+use Rattle.blazor_top.specs.FirstPage.Pieces.{Moment}
+use Rattle.blazor_top.specs.FirstPage.Walks.{Walk}
 
 -- this token stands first behind white space, and leaves a rest
 pub data TokenStands : List ℕ → List ℕ → List ℕ → Type 0 where

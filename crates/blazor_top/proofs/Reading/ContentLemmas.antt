@@ -10,12 +10,12 @@ use Rattle.blazor_top.specs.declared.first_page.component.Item.{Item}
 use Rattle.blazor_top.specs.declared.first_page.component.Item.TheVariants as item
 use Rattle.blazor_top.specs.declared.first_page.content.Unclosed.{Unclosed}
 use Rattle.blazor_top.specs.declared.first_page.pieces.PieceKind.TheVariants as kind
-use Rattle.blazor_top.specs.Content.{trimmed, Spelled, SpellsTree, nothing, literal, shown, element}
-use Rattle.blazor_top.specs.ContentReading.{State, unclosed, with_item, started, ended, taken, finished, built}
-use Rattle.blazor_top.specs.Fields.{has_field}
-use Rattle.blazor_top.specs.Names.{is_element_name}
-use Rattle.blazor_top.specs.Pieces.{Piece}
-use Rattle.blazor_top.proofs.RunLemmas.{bind_some, some_is, kept}
+use Rattle.blazor_top.specs.FirstPage.Content.{trimmed, Spelled, SpellsTree, nothing, literal, shown, element}
+use Rattle.blazor_top.specs.Reading.Content.{State, unclosed, with_item, started, ended, taken, finished, built}
+use Rattle.blazor_top.specs.FirstPage.Fields.{has_field}
+use Rattle.blazor_top.specs.FirstPage.Names.{is_element_name}
+use Rattle.blazor_top.specs.FirstPage.Pieces.{Piece}
+use Rattle.blazor_top.proofs.Reading.RunLemmas.{bind_some, some_is, kept}
 use mathlib.Core.List.{append-nil}
 
 -- what is spelled is built

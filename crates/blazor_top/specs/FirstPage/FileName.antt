@@ -3,7 +3,7 @@ use Rattle.std.specs.Prelude.{◌≡◌, ℕ, Bool, true, not, ◌&&◌, ◌==�
 use Rattle.std.specs.List.{list_any, list_all}
 use Rattle.std.specs.Str.{bytes_eq}
 use Rattle.blazor_top.specs.declared.first_page.characters.Class.TheVariants as class
-use Rattle.blazor_top.specs.Characters.{is_in, begins_with}
+use Rattle.blazor_top.specs.FirstPage.Characters.{is_in, begins_with}
 
 -- `/`
 abbrev pub is_slash : ℕ → Bool

@@ -9,13 +9,13 @@ use Rattle.std.proofs.lemmas.Bool.{and_parts, eqb-false}
 use Rattle.std.proofs.lemmas.List.{map-append, take_at}
 use Rattle.std.proofs.Math.Seq.{take-length, take-suc}
 use Rattle.blazor_top.specs.declared.first_page.component.Field.{Field}
-use Rattle.blazor_top.specs.Pieces.{Moment}
-use Rattle.blazor_top.specs.Runs.{strip}
-use Rattle.blazor_top.specs.Code.{IsCode, IsBlock, Section, Closes}
-use Rattle.blazor_top.specs.CodeReading.{are_braces, fields_behind}
-use Rattle.blazor_top.proofs.RunLemmas.{strip-again, strip-some, some_is}
-use Rattle.blazor_top.proofs.CodeLemmas.{one_code}
-use Rattle.blazor_top.proofs.FieldLemmas.{fields_behind-some, fields_behind-again}
+use Rattle.blazor_top.specs.FirstPage.Pieces.{Moment}
+use Rattle.blazor_top.specs.Reading.Runs.{strip}
+use Rattle.blazor_top.specs.FirstPage.Code.{IsCode, IsBlock, Section, Closes}
+use Rattle.blazor_top.specs.Reading.Code.{are_braces, fields_behind}
+use Rattle.blazor_top.proofs.Reading.RunLemmas.{strip-again, strip-some, some_is}
+use Rattle.blazor_top.proofs.Reading.CodeLemmas.{one_code}
+use Rattle.blazor_top.proofs.Reading.FieldLemmas.{fields_behind-some, fields_behind-again}
 
 -- a block, in the code's terms
 pub in_braces : (d : Bor (List ℕ)) (ts : List (Bor (List ℕ))) → 2 ≤ length ts → are_braces (get_or ts 0 d).now (get_or ts (length ts - 1) d).now ≡ true

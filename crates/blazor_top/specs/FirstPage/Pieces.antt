@@ -3,7 +3,7 @@ use Rattle.std.specs.Prelude.{◌≡◌, ◌≢◌, ℕ, Bool, true, false, List
 use Rattle.blazor_top.specs.declared.first_page.characters.Class.TheVariants as class
 use Rattle.blazor_top.specs.declared.first_page.pieces.PieceKind.{PieceKind}
 use Rattle.blazor_top.specs.declared.first_page.pieces.PieceKind.TheVariants.{Open, Close, Literal, Shown}
-use Rattle.blazor_top.specs.Characters.{IsRun, begins_with, ends_with}
+use Rattle.blazor_top.specs.FirstPage.Characters.{IsRun, begins_with, ends_with}
 
 -- its kind, and the name or text that it has
 abbrev pub Piece : Type 0

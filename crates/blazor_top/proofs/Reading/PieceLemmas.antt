@@ -10,11 +10,12 @@ use Rattle.std.proofs.lemmas.Bool.Decides.{nat_tests}
 use Rattle.blazor_top.specs.declared.first_page.characters.Class.TheVariants as class
 use Rattle.blazor_top.specs.declared.first_page.pieces.PieceKind.{PieceKind}
 use Rattle.blazor_top.specs.declared.first_page.pieces.PieceKind.TheVariants as kind
-use Rattle.blazor_top.specs.Characters.{is_in, IsRun, begins_with, ends_with}
-use Rattle.blazor_top.specs.Pieces.{Piece, Moment, Stands, open_tag, close_tag, literal, shown}
-use Rattle.blazor_top.specs.Runs.{run_at, strip}
-use Rattle.blazor_top.specs.Cutting.{◌>>=◌, behind, tag_at, shown_at, literal_at, piece_at}
-use Rattle.blazor_top.proofs.RunLemmas.{bind_some, some_is, chosen, run-some, run-again, strip-some, strip-again}
+use Rattle.blazor_top.specs.FirstPage.Characters.{is_in, IsRun, begins_with, ends_with}
+use Rattle.blazor_top.specs.FirstPage.Pieces.{Piece, Moment, Stands, open_tag, close_tag, literal, shown}
+use Rattle.blazor_top.specs.Reading.Runs.{run_at, strip}
+use Rattle.blazor_top.specs.Options.{◌>>=◌}
+use Rattle.blazor_top.specs.Reading.Cutting.{behind, tag_at, shown_at, literal_at, piece_at}
+use Rattle.blazor_top.proofs.Reading.RunLemmas.{bind_some, some_is, chosen, run-some, run-again, strip-some, strip-again}
 
 -- what was cut off
 

@@ -8,22 +8,22 @@ use Rattle.blazor_top.specs.declared.first_page.characters.Class.TheVariants as 
 use Rattle.blazor_top.specs.declared.first_page.component.Component.{Component}
 use Rattle.blazor_top.specs.declared.first_page.component.Field.{Field}
 use Rattle.blazor_top.specs.declared.first_page.component.Item.{Item}
-use Rattle.blazor_top.specs.Characters.{is_in, AreAll, IsRun, begins_with}
-use Rattle.blazor_top.specs.Code.{TokenStands, word, sign, IsCode, IsBlock, Section, Closes}
-use Rattle.blazor_top.specs.CodeReading.{fields_behind}
-use Rattle.blazor_top.specs.Component.{counts, Spells}
-use Rattle.blazor_top.specs.Content.{Spelled, trimmed}
-use Rattle.blazor_top.specs.Cutting.{piece_at, shown_at, literal_at, CutsUp}
-use Rattle.blazor_top.specs.Pieces.{Piece, Moment, Stands}
-use Rattle.blazor_top.specs.Runs.{run_at, strip}
-use Rattle.blazor_top.specs.Walks.{Walk, stay, go}
-use Rattle.blazor_top.proofs.RunLemmas.{run-again, strip-again, some_is}
-use Rattle.blazor_top.proofs.WalkLemmas.{same_walk, SameWalk}
-use Rattle.blazor_top.proofs.PieceLemmas.{piece_at-again, no_tag}
-use Rattle.blazor_top.proofs.CodeLemmas.{one_code}
-use Rattle.blazor_top.proofs.ClosingLemmas.{one_block}
-use Rattle.blazor_top.proofs.FieldLemmas.{fields_behind-again}
-use Rattle.blazor_top.proofs.ContentLemmas.{one_tree}
+use Rattle.blazor_top.specs.FirstPage.Characters.{is_in, AreAll, IsRun, begins_with}
+use Rattle.blazor_top.specs.FirstPage.Code.{TokenStands, word, sign, IsCode, IsBlock, Section, Closes}
+use Rattle.blazor_top.specs.Reading.Code.{fields_behind}
+use Rattle.blazor_top.specs.FirstPage.Component.{counts, Spells}
+use Rattle.blazor_top.specs.FirstPage.Content.{Spelled, trimmed}
+use Rattle.blazor_top.specs.Reading.Cutting.{piece_at, shown_at, literal_at, CutsUp}
+use Rattle.blazor_top.specs.FirstPage.Pieces.{Piece, Moment, Stands}
+use Rattle.blazor_top.specs.Reading.Runs.{run_at, strip}
+use Rattle.blazor_top.specs.FirstPage.Walks.{Walk, stay, go}
+use Rattle.blazor_top.proofs.Reading.RunLemmas.{run-again, strip-again, some_is}
+use Rattle.blazor_top.proofs.Reading.WalkLemmas.{same_walk, SameWalk}
+use Rattle.blazor_top.proofs.Reading.PieceLemmas.{piece_at-again, no_tag}
+use Rattle.blazor_top.proofs.Reading.CodeLemmas.{one_code}
+use Rattle.blazor_top.proofs.Reading.ClosingLemmas.{one_block}
+use Rattle.blazor_top.proofs.Reading.FieldLemmas.{fields_behind-again}
+use Rattle.blazor_top.proofs.Reading.ContentLemmas.{one_tree}
 
 -- no piece of content stands at the end of a file, nor at its code
 

@@ -4,11 +4,11 @@ use Rattle.std.specs.Str.{bytes_eq}
 use Rattle.text_core.specs.Decimal.{i32_of}
 use Rattle.blazor_top.specs.declared.first_page.characters.Class.TheVariants as class
 use Rattle.blazor_top.specs.declared.first_page.component.Field.{Field}
-use Rattle.blazor_top.specs.Characters.{begins_with}
-use Rattle.blazor_top.specs.Cutting.{◌>>=◌}
-use Rattle.blazor_top.specs.Fields.{has_field, field}
-use Rattle.blazor_top.specs.Names.{is_field_name}
-use Rattle.blazor_top.specs.Runs.{past, run_at}
+use Rattle.blazor_top.specs.FirstPage.Characters.{begins_with}
+use Rattle.blazor_top.specs.Options.{◌>>=◌}
+use Rattle.blazor_top.specs.FirstPage.Fields.{has_field, field}
+use Rattle.blazor_top.specs.FirstPage.Names.{is_field_name}
+use Rattle.blazor_top.specs.Reading.Runs.{past, run_at}
 
 -- the first character, as a token
 abbrev pub sign_at : List ℕ → Option (List ℕ × List ℕ)

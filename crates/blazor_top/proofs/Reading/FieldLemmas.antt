@@ -8,12 +8,12 @@ use Rattle.std.proofs.lemmas.Bool.{and_parts}
 use Rattle.std.proofs.Math.Seq.{take-length}
 use Rattle.text_core.specs.Decimal.{i32_of}
 use Rattle.blazor_top.specs.declared.first_page.component.Field.{Field}
-use Rattle.blazor_top.specs.Fields.{has_field, field}
-use Rattle.blazor_top.specs.Names.{is_field_name}
-use Rattle.blazor_top.specs.Code.{Declares, no_more, one_more, declaration}
-use Rattle.blazor_top.specs.Cutting.{◌>>=◌}
-use Rattle.blazor_top.specs.CodeReading.{is_declaration, field_of, fields_behind}
-use Rattle.blazor_top.proofs.RunLemmas.{bind_some, some_is, kept, chosen}
+use Rattle.blazor_top.specs.FirstPage.Fields.{has_field, field}
+use Rattle.blazor_top.specs.FirstPage.Names.{is_field_name}
+use Rattle.blazor_top.specs.FirstPage.Code.{Declares, no_more, one_more, declaration}
+use Rattle.blazor_top.specs.Options.{◌>>=◌}
+use Rattle.blazor_top.specs.Reading.Code.{is_declaration, field_of, fields_behind}
+use Rattle.blazor_top.proofs.Reading.RunLemmas.{bind_some, some_is, kept, chosen}
 
 -- one declaration, in the code's terms
 

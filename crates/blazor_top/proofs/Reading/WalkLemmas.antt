@@ -1,8 +1,8 @@
 -- Steps one after another.
 use Rattle.std.proofs.Common.{◌≡◌, List, [], ◌∷◌, ◌++◌, Some, None, refl, ap, sym, ◌∙◌, subst}
 use Rattle.std.specs.declared.option.Option.{Option}
-use Rattle.blazor_top.specs.Walks.{Walk}
-use Rattle.blazor_top.specs.Walks as w
+use Rattle.blazor_top.specs.FirstPage.Walks.{Walk}
+use Rattle.blazor_top.specs.FirstPage.Walks as w
 
 -- one more step
 pub walk-more : {State Thing : Type 0} (Step : State → Thing → State → Type 0) (a b c : State) (xs : List Thing) (x : Thing)

@@ -2,7 +2,7 @@
 use Rattle.std.specs.Prelude.{ℕ, List, [], ◌∷◌, length, take, drop, Option, Some, None, if◌then◌else◌, ◌==◌}
 use Rattle.std.specs.Str.{bytes_eq}
 use Rattle.blazor_top.specs.declared.first_page.characters.Class.{Class}
-use Rattle.blazor_top.specs.Characters.{is_in}
+use Rattle.blazor_top.specs.FirstPage.Characters.{is_in}
 
 -- the longest front of a class
 abbrev pub front : Class → List ℕ → List ℕ

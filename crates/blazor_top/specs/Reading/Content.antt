@@ -7,11 +7,11 @@ use Rattle.blazor_top.specs.declared.first_page.component.Item.TheVariants as it
 use Rattle.blazor_top.specs.declared.first_page.content.Builder.{Builder}
 use Rattle.blazor_top.specs.declared.first_page.content.Unclosed.{Unclosed}
 use Rattle.blazor_top.specs.declared.first_page.pieces.PieceKind.TheVariants.{Open, Close, Literal, Shown}
-use Rattle.blazor_top.specs.Content.{is_blank, trimmed}
-use Rattle.blazor_top.specs.Cutting.{◌>>=◌}
-use Rattle.blazor_top.specs.Fields.{has_field}
-use Rattle.blazor_top.specs.Names.{is_element_name}
-use Rattle.blazor_top.specs.Pieces.{Piece}
+use Rattle.blazor_top.specs.FirstPage.Content.{is_blank, trimmed}
+use Rattle.blazor_top.specs.Options.{◌>>=◌}
+use Rattle.blazor_top.specs.FirstPage.Fields.{has_field}
+use Rattle.blazor_top.specs.FirstPage.Names.{is_element_name}
+use Rattle.blazor_top.specs.FirstPage.Pieces.{Piece}
 
 -- whether the first item, or the last, is white space alone
 abbrev pub begins_blank : List Item → Bool
