@@ -48,7 +48,7 @@ pub record IsMissing (words : List (List ℕ)) (held : Contents) (old new : Told
   pub lacks : Lacks held name
   pub written : Writes old new (line_about (codes "missing ") name [])
 
--- the file that the words name was not read, and the faults of the files rose
+-- the words name a file, and the faults of the files rose
 pub record IsUnread (words : List (List ℕ)) (rose : Type 0) (old new : Told) : Type 0 where
   pub name : List ℕ
   pub asked : rendered_file words ≡ Some name
@@ -62,7 +62,7 @@ pub record IsTooLarge (words : List (List ℕ)) (held : Contents) (old new : Tol
   pub exceeds : Exceeds held name
   pub written : Writes old new (line_about (codes "too large ") name [])
 
--- of the line that belongs to the words a front was written
+-- of the line that belongs to the words a front was written, but not all
 pub record IsCutOff (words : List (List ℕ)) (held : Contents) (rose : Type 0) (old new : Told) : Type 0 where
   pub status : Status
   pub line : List ℕ

@@ -1,11 +1,12 @@
 //! The top call, `run`: it takes the words of the command line, files and a sink, does all that the program does, and
 //! answers the status with which the process is to end.
 //!
-//! Its contract says, for every words, files and sink: with status 0 the bytes written are the printed page of the
-//! fresh rendering of the component that the named file spells; each other status comes only for its cause, and its
-//! line is written whole; faults of files and of the sink are answered only where their counts rose. It does not say
-//! that memory is found. So far the one command is `render` with one name, over files of the first-page form
-//! (docs/DEFINITIONS.md).
+//! Its contract says, for every words, and for files and a sink that tell what they hold: with status 0 the bytes
+//! written are the printed page of the fresh rendering of the component that the named file spells; 1, 2, 4, 5 and 8
+//! come only for their causes, and the line of each is written whole; 5 and 6 come only where a count of faults rose.
+//! Of objects that tell nothing, as the system's, it says that there is some content for which this holds. It does not
+//! say that memory is found, so that 9 may come at any time, nor how often a file is read. So far the one command is
+//! `render` with one name, over files of the first-page form (docs/DEFINITIONS.md).
 #![tactic(auto)]
 
 mod first_page;

@@ -17,7 +17,7 @@ pub enum Written {
 /// Writes all of the bytes, or a front of them where the sink answers a fault or finds no memory.
 pub fn write_all<S: Sink>(out: &mut S, bytes: &[u8]) -> Written
     ensures all { result ≡ Written.All → Adds (S.written out.old) (S.written out.new) bytes.now }
-    ensures front { AddsFront (S.written out.old) (S.written out.new) bytes.now }
+    ensures front { (result ≡ Written.All → ⊥) → AddsFront (S.written out.old) (S.written out.new) bytes.now }
     ensures fault { result ≡ Written.Fault → Rose (S.fault_count out.old) (S.fault_count out.new) }
     ensures later { S.fault_count out.old ≤ S.fault_count out.new }
 {

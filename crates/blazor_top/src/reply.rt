@@ -1,7 +1,8 @@
 // What the program is to write, and with which status it ends.
-ghost use Rattle.std.specs.Prelude.{◌≡◌, ◌++◌, ◌∷◌, [], ◌≤◌, IfOk, IsTrue};
+ghost use Rattle.std.specs.Prelude.{◌≡◌, ◌++◌, ◌∷◌, [], ◌≤◌, None, IfOk, IsTrue};
 ghost use Rattle.text_core.specs.Ascii.{is_ascii};
 ghost use Rattle.outside.specs.Faults.{Rose};
+ghost use Rattle.blazor_top.specs.Words.{rendered_file};
 ghost use Rattle.blazor_top.specs.Reply.{line_about, page_line, usage_line, BytesReply, RepliesTo, Replies};
 
 use crate::first_page::{Component, read};
@@ -100,6 +101,7 @@ fn reply_to(alloc: Global, name: &Txt, answer: FileRead) -> Result<Reply, Oom>
 pub fn reply_for<F: Files>(alloc: Global, words: &[Txt], files: &mut F) -> Result<Reply, Oom>
     ensures reply { IfOk result (λ reply. Replies words.now (F.held files.old)
         (Rose (F.fault_count files.old) (F.fault_count files.new)) reply.status reply.line) }
+    ensures idle { rendered_file words.now ≡ None → files.new ≡ files.old }
     ensures same { F.held files.new ≡ F.held files.old }
     ensures later { F.fault_count files.old ≤ F.fault_count files.new }
 {

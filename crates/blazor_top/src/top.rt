@@ -1,7 +1,8 @@
 // The top call.
-ghost use Rattle.std.specs.Prelude.{◌≡◌, ◌≤◌, ◌⊎◌};
+ghost use Rattle.std.specs.Prelude.{◌≡◌, ◌≤◌, ◌⊎◌, None};
 ghost use Rattle.outside.specs.Faults.{Rose};
 ghost use Rattle.blazor_top.specs.Run.{IsRendered, IsRefused, IsMisused, IsMissing, IsUnread, IsTooLarge, IsCutOff, IsAccepted, Says, IsStatus, Finishes};
+ghost use Rattle.blazor_top.specs.Words.{rendered_file};
 
 use crate::output::{Written, write_all};
 use crate::reply::{Reply, reply_for};
@@ -34,6 +35,7 @@ fn finish<S: Sink>(out: &mut S, reply: &Reply) -> Status
 fn answer<F: Files, S: Sink>(alloc: Global, words: &[Txt], files: &mut F, out: &mut S) -> Status
     ensures says { Says words.now (F.held files.old) (Rose (F.fault_count files.old) (F.fault_count files.new))
         (S.written out.old) (S.written out.new) (Rose (S.fault_count out.old) (S.fault_count out.new)) result }
+    ensures idle { rendered_file words.now ≡ None → files.new ≡ files.old }
     ensures same { F.held files.new ≡ F.held files.old }
     ensures later { (F.fault_count files.old ≤ F.fault_count files.new)
         × (S.fault_count out.old ≤ S.fault_count out.new) }
@@ -60,7 +62,8 @@ pub fn run<F: Files, S: Sink>(alloc: Global, words: &[Txt], files: &mut F, out: 
     ensures unread { result.status ≡ 5
         → IsUnread words.now (Rose (F.fault_count files.old) (F.fault_count files.new)) (S.written out.old) (S.written out.new) }
 
-    // Where writing stopped, a front of the line is written; 9 comes for want of memory alone.
+    // Where writing stopped, a front of the line is written, but not all. The status 9 is for want of memory, of which no
+    // contract can give the cause.
     ensures unwritten { result.status ≡ 6
         → IsCutOff words.now (F.held files.old) (Rose (F.fault_count files.old) (F.fault_count files.new))
         (S.written out.old) (S.written out.new)
@@ -78,6 +81,9 @@ pub fn run<F: Files, S: Sink>(alloc: Global, words: &[Txt], files: &mut F, out: 
         → (Rose (F.fault_count files.old) (F.fault_count files.new) → ⊥)
         → (Rose (S.fault_count out.old) (S.fault_count out.new) → ⊥)
         → (result.status ≡ 0) ⊎ (result.status ≡ 9) }
+
+    // Words that name no file touch none; and the contents of files stay.
+    ensures idle { rendered_file words.now ≡ None → files.new ≡ files.old }
     ensures same { F.held files.new ≡ F.held files.old }
     ensures later { (F.fault_count files.old ≤ F.fault_count files.new)
         × (S.fault_count out.old ≤ S.fault_count out.new) }

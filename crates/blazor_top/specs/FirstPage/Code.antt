@@ -39,7 +39,7 @@ pub data Declares : List Field → List (List ℕ) → List Field → Type 0 whe
 abbrev pub IsBlock : List (List ℕ) → List (List ℕ) → Type 0
 IsBlock tokens body = tokens ≡ codes "{" ∷ (body ++ codes "}" ∷ [])
 
--- `@code { declarations }`, with no letter or digit right before it, and nothing behind it
+-- `@code { declarations }`, with no letter, digit or `_` right before it, and nothing behind it
 pub record Section (end : Moment) (fields : List Field) : Type 0 where
   pub apart : end.0 ≡ false
   pub code : List ℕ

@@ -6,7 +6,7 @@ use Rattle.page_core.specs.Void.{is_void}
 use Rattle.blazor_top.specs.declared.first_page.characters.Class.TheVariants as class
 use Rattle.blazor_top.specs.FirstPage.Characters.{is_in}
 
--- the words of C# that are no names, and those that begin a directive
+-- the words that no field has as its name: those of this project's C#, and those that begin a directive
 unfoldable pub reserved_words : List (List ℕ)
 reserved_words =
     codes "async" ∷ codes "await" ∷ codes "bool" ∷ codes "break" ∷ codes "case" ∷ codes "continue" ∷ codes "default"

@@ -9,7 +9,7 @@ use Rattle.blazor_top.specs.FirstPage.Characters.{IsRun, begins_with, ends_with}
 abbrev pub Piece : Type 0
 Piece = PieceKind × List ℕ
 
--- whether a letter or digit stands right before, and the text from here on
+-- whether a letter, digit or `_` stands right before, and the text from here on
 abbrev pub Moment : Type 0
 Moment = Bool × List ℕ
 
@@ -24,6 +24,6 @@ pub data Stands : Moment → Piece → Moment → Type 0 where
   -- literal characters, as many as there are
   literal : (joined : Bool) (text rest : List ℕ) → IsRun class.Literal text → begins_with class.Literal rest ≡ false →
       Stands (joined, text ++ rest) (Literal, text) (ends_with class.Word text, rest)
-  -- `@name`, with no letter or digit before it, and nothing behind it that would go on the expression
+  -- `@name`, with no letter, digit or `_` before it, and nothing behind it that would go on the expression
   shown : (name rest : List ℕ) → IsRun class.Letter name → name ≢ codes "code" → begins_with class.Continuing rest ≡ false →
       Stands (false, codes "@" ++ (name ++ rest)) (Shown, name) (true, rest)

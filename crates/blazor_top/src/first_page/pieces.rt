@@ -29,7 +29,7 @@ pub struct Piece<'a> {
     pub text: &'a [u8],
 }
 
-/// A moment of reading: whether a letter or digit stands right before, and the text that is left.
+/// A moment of reading: whether a letter, digit or `_` stands right before, and the text that is left.
 #[derive(Clone, Copy, Debug)]
 pub struct Reached<'a> {
     pub after_word: bool,
