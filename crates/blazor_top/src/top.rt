@@ -1,7 +1,8 @@
 // The top call.
 ghost use Rattle.std.specs.Prelude.{◌≡◌, ◌≤◌, ◌⊎◌, None};
 ghost use Rattle.outside.specs.Faults.{Rose};
-ghost use Rattle.blazor_top.specs.Run.{IsRendered, IsRefused, IsMisused, IsMissing, IsUnread, IsTooLarge, IsCutOff, IsAccepted, Says, IsStatus, Finishes};
+ghost use Rattle.blazor_top.specs.Reply.{IsPage, IsRefusal, IsUsage, IsMissing, IsUnread, IsTooLarge};
+ghost use Rattle.blazor_top.specs.Run.{Wrote, CutOff, IsReply, IsAccepted, Says, IsStatus, Finishes};
 ghost use Rattle.blazor_top.specs.Words.{rendered_file};
 
 use crate::output::{Written, write_all};
@@ -50,27 +51,27 @@ fn answer<F: Files, S: Sink>(alloc: Global, words: &[Txt], files: &mut F, out: &
 /// with which status the process is to end.
 pub fn run<F: Files, S: Sink>(alloc: Global, words: &[Txt], files: &mut F, out: &mut S) -> Finished
     // The page of the fresh rendering of the component that the file spells is written whole.
-    ensures rendered { result.status ≡ 0 → IsRendered words.now (F.held files.old) (S.written out.old) (S.written out.new) }
+    ensures rendered { result.status ≡ 0 → Wrote (S.written out.old) (S.written out.new) (IsPage words.now (F.held files.old)) }
 
     // Each refusal comes only for its cause, and its line is written whole.
-    ensures refused { result.status ≡ 1 → IsRefused words.now (F.held files.old) (S.written out.old) (S.written out.new) }
-    ensures misused { result.status ≡ 2 → IsMisused words.now (S.written out.old) (S.written out.new) }
-    ensures missing { result.status ≡ 4 → IsMissing words.now (F.held files.old) (S.written out.old) (S.written out.new) }
-    ensures too_large { result.status ≡ 8 → IsTooLarge words.now (F.held files.old) (S.written out.old) (S.written out.new) }
+    ensures refused { result.status ≡ 1 → Wrote (S.written out.old) (S.written out.new) (IsRefusal words.now (F.held files.old)) }
+    ensures misused { result.status ≡ 2 → Wrote (S.written out.old) (S.written out.new) (IsUsage words.now) }
+    ensures missing { result.status ≡ 4 → Wrote (S.written out.old) (S.written out.new) (IsMissing words.now (F.held files.old)) }
+    ensures too_large { result.status ≡ 8 → Wrote (S.written out.old) (S.written out.new) (IsTooLarge words.now (F.held files.old)) }
 
-    // The files failed, and their count of faults rose.
-    ensures unread { result.status ≡ 5
-        → IsUnread words.now (Rose (F.fault_count files.old) (F.fault_count files.new)) (S.written out.old) (S.written out.new) }
+    // The count of faults of the files rose.
+    ensures unread { result.status ≡ 5 → Wrote (S.written out.old) (S.written out.new)
+        (IsUnread words.now (Rose (F.fault_count files.old) (F.fault_count files.new))) }
 
     // Where writing stopped, a front of the line is written, but not all. The status 9 is for want of memory, of which no
     // contract can give the cause.
     ensures unwritten { result.status ≡ 6
-        → IsCutOff words.now (F.held files.old) (Rose (F.fault_count files.old) (F.fault_count files.new))
-        (S.written out.old) (S.written out.new)
+        → CutOff (S.written out.old) (S.written out.new)
+        (IsReply words.now (F.held files.old) (Rose (F.fault_count files.old) (F.fault_count files.new)))
         × Rose (S.fault_count out.old) (S.fault_count out.new) }
     ensures no_memory { result.status ≡ 9
-        → IsCutOff words.now (F.held files.old) (Rose (F.fault_count files.old) (F.fault_count files.new))
-        (S.written out.old) (S.written out.new)
+        → CutOff (S.written out.old) (S.written out.new)
+        (IsReply words.now (F.held files.old) (Rose (F.fault_count files.old) (F.fault_count files.new)))
         ⊎ (S.written out.new ≡ S.written out.old) }
 
     // There is no other status.

@@ -1,10 +1,7 @@
 -- The numbered calls of an object in memory.
-use Rattle.std.specs.Prelude.{◌≡◌, ℕ, ◌+◌, ◌-◌, ◌^◌, min, List, Bool, Contains, if◌then◌else◌}
+use Rattle.std.specs.Prelude.{◌≡◌, ℕ, List, Bool, Contains, if◌then◌else◌}
+use Rattle.outside.specs.Faults.{one_more}
 use Rattle.outside.specs.declared.calls.Calls.{Calls}
-
--- one more, up to the end of 64 bits
-abbrev pub one_more : ℕ → ℕ
-one_more count = min (count + 1) (2 ^ 64 - 1)
 
 -- how many calls were made
 abbrev pub calls_made : Calls → ℕ
