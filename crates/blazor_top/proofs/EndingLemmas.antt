@@ -1,5 +1,5 @@
 -- What the end of a run says.
-use Rattle.std.proofs.Common.{◌≡◌, ℕ, List, cond, eqb, sym, ap, ◌∙◌, subst, refl, inl, inr, ◌⊎◌, Some, None, length, arith}
+use Rattle.std.proofs.Common.{◌≡◌, ℕ, List, cond, eqb, sym, ap, ◌∙◌, subst, refl, inl, inr, ◌⊎◌, Some, length, arith}
 use Rattle.std.specs.Prelude.{encode_utf8_all}
 use Rattle.outside.specs.Sink.{Adds}
 use Rattle.blazor_top.specs.declared.status.Status.{Status}
@@ -7,7 +7,7 @@ use Rattle.blazor_top.specs.declared.status.Status.TheVariants.{Done, Refused, U
 use Rattle.blazor_top.specs.Reply.{Contents, Holds, Lacks, Exceeds, FileSpells, Replies}
 use Rattle.blazor_top.specs.Run.{Told, Says, IsAccepted, Finishes, whole, stopped, no_memory}
 use Rattle.blazor_top.specs.Status.{code_of}
-use Rattle.blazor_top.proofs.Reading.RunLemmas.{some_is}
+use Rattle.blazor_top.proofs.OptionLemmas.{some_is, some_none}
 
 status_of : ℕ → Status
 status_of n =
@@ -32,9 +32,6 @@ status_of-code OutOfMemory = refl
 
 one_code : (a b : Status) → code_of a ≡ code_of b → a ≡ b
 one_code a b e = sym (status_of-code a) ∙ ap status_of e ∙ status_of-code b
-
-some_none : {A : Type 0} (x : A) → Some x ≡ None → ⊥
-some_none x e = cc
 
 module _ (words : List (List ℕ)) (held : Contents) (rose : Type 0) (old new : Told) (faulted : Type 0) where
   says_whole : (status : Status) (line : List ℕ) → Replies words held rose status line → Adds old new (encode_utf8_all line) → Says words held rose old new faulted status

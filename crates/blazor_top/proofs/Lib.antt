@@ -1,3 +1,4 @@
+pub mod OptionLemmas
 pub mod Reading
 pub mod EditLemmas
 pub mod WordLemmas

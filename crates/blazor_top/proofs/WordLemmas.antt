@@ -6,7 +6,7 @@ use Rattle.std.specs.Str.{bytes_eq}
 use Rattle.std.proofs.lemmas.Bool.{cases_Bool}
 use Rattle.blazor_top.specs.Options.{◌>>=◌}
 use Rattle.blazor_top.specs.Words.{begins_with_dash, names_in, the_one, only_name}
-use Rattle.blazor_top.proofs.Reading.RunLemmas.{bind_some, some_is}
+use Rattle.blazor_top.proofs.OptionLemmas.{bind_some, some_is}
 
 no_value : {A : Type 0} (x : A) → None ≡ Some x → ⊥
 no_value x e = cc

@@ -13,7 +13,8 @@ use Rattle.blazor_top.specs.FirstPage.Pieces.{Moment}
 use Rattle.blazor_top.specs.Reading.Runs.{strip}
 use Rattle.blazor_top.specs.FirstPage.Code.{IsCode, IsBlock, Section, Closes}
 use Rattle.blazor_top.specs.Reading.Code.{are_braces, fields_behind}
-use Rattle.blazor_top.proofs.Reading.RunLemmas.{strip-again, strip-some, some_is}
+use Rattle.blazor_top.proofs.OptionLemmas.{some_is}
+use Rattle.blazor_top.proofs.Reading.RunLemmas.{strip-again, strip-some}
 use Rattle.blazor_top.proofs.Reading.CodeLemmas.{one_code}
 use Rattle.blazor_top.proofs.Reading.FieldLemmas.{fields_behind-some, fields_behind-again}
 

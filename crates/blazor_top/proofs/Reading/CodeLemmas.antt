@@ -9,7 +9,8 @@ use Rattle.blazor_top.specs.FirstPage.Characters.{is_in, AreAll, IsRun, begins_w
 use Rattle.blazor_top.specs.Reading.Runs.{front, past, run_at}
 use Rattle.blazor_top.specs.FirstPage.Code.{TokenStands, word, sign, IsCode}
 use Rattle.blazor_top.specs.Reading.Code.{sign_at, token_at}
-use Rattle.blazor_top.proofs.Reading.RunLemmas.{some_is, run-some, run-again, past-again, skipped}
+use Rattle.blazor_top.proofs.OptionLemmas.{some_is}
+use Rattle.blazor_top.proofs.Reading.RunLemmas.{run-some, run-again, past-again, skipped}
 use Rattle.blazor_top.proofs.Reading.WalkLemmas.{same_walk}
 
 -- a token

@@ -15,7 +15,7 @@ use Rattle.blazor_top.specs.Reading.Content.{State, unclosed, with_item, started
 use Rattle.blazor_top.specs.FirstPage.Fields.{has_field}
 use Rattle.blazor_top.specs.FirstPage.Names.{is_element_name}
 use Rattle.blazor_top.specs.FirstPage.Pieces.{Piece}
-use Rattle.blazor_top.proofs.Reading.RunLemmas.{bind_some, some_is, kept}
+use Rattle.blazor_top.proofs.OptionLemmas.{bind_some, some_is, kept}
 use mathlib.Core.List.{append-nil}
 
 -- what is spelled is built

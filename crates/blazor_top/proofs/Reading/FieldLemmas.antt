@@ -13,7 +13,7 @@ use Rattle.blazor_top.specs.FirstPage.Names.{is_field_name}
 use Rattle.blazor_top.specs.FirstPage.Code.{Declares, no_more, one_more, declaration}
 use Rattle.blazor_top.specs.Options.{◌>>=◌}
 use Rattle.blazor_top.specs.Reading.Code.{is_declaration, field_of, fields_behind}
-use Rattle.blazor_top.proofs.Reading.RunLemmas.{bind_some, some_is, kept, chosen}
+use Rattle.blazor_top.proofs.OptionLemmas.{bind_some, some_is, kept, chosen}
 
 -- one declaration, in the code's terms
 

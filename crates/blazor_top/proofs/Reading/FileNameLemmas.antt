@@ -9,6 +9,7 @@ use Rattle.std.specs.List.{list_any, position_or_len}
 use Rattle.std.proofs.lemmas.Bool.{cases_Bool, lt-ltb}
 use Rattle.std.proofs.lemmas.List.Folds.{list_any_at}
 use Rattle.blazor_top.specs.FirstPage.FileName.{is_slash, base_name, is_component_name, NamesComponent}
+use Rattle.blazor_top.proofs.OptionLemmas.{some_none}
 
 any_first : (path : List ℕ) → list_any is_slash path ≡ true → position_or_len is_slash path < length path
 any_first [] e = absurd (cc)
@@ -16,9 +17,6 @@ any_first (c ∷ path) e = elim (cases_Bool (is_slash c)) [
   | inl is ↦ rw is (omega arith)
   | inr fails ↦ rw fails (let more = any_first path (rw fails at e) in omega arith)
 ]
-
-some_none : {A : Type 0} (x : A) → Some x ≡ None → ⊥
-some_none x e = cc
 
 base_name-whole : (path : List ℕ) → list_any is_slash path ≡ false → base_name path ≡ path
 base_name-whole [] e = refl

@@ -15,7 +15,8 @@ use Rattle.blazor_top.specs.FirstPage.Pieces.{Piece, Moment, Stands, open_tag, c
 use Rattle.blazor_top.specs.Reading.Runs.{run_at, strip}
 use Rattle.blazor_top.specs.Options.{◌>>=◌}
 use Rattle.blazor_top.specs.Reading.Cutting.{behind, tag_at, shown_at, literal_at, piece_at}
-use Rattle.blazor_top.proofs.Reading.RunLemmas.{bind_some, some_is, chosen, run-some, run-again, strip-some, strip-again}
+use Rattle.blazor_top.proofs.OptionLemmas.{bind_some, some_is, chosen}
+use Rattle.blazor_top.proofs.Reading.RunLemmas.{run-some, run-again, strip-some, strip-again}
 
 -- what was cut off
 

@@ -1,6 +1,5 @@
 -- Runs of characters and fixed fronts: what was read stands there, and what stands there is read.
-use Rattle.std.proofs.Common.{◌≡◌, ℕ, Bool, true, false, cond, List, [], ◌∷◌, ◌++◌, length, take, drop, Some, None, refl, ap, sym, ◌∙◌, arith, eqb, inl, inr}
-use Rattle.std.specs.declared.option.Option.{Option}
+use Rattle.std.proofs.Common.{◌≡◌, ℕ, false, List, [], ◌∷◌, ◌++◌, length, take, drop, Some, refl, ap, sym, ◌∙◌, arith, eqb, inl, inr}
 use Rattle.std.specs.List.{list_all}
 use Rattle.std.specs.Str.{bytes_eq}
 use Rattle.std.specs.Cmp.Lexicographic.{bytes_decides}
@@ -10,24 +9,7 @@ use Rattle.std.proofs.lemmas.List.{take-append-drop}
 use Rattle.blazor_top.specs.declared.first_page.characters.Class.{Class}
 use Rattle.blazor_top.specs.FirstPage.Characters.{is_in, AreAll, IsRun, begins_with}
 use Rattle.blazor_top.specs.Reading.Runs.{front, past, run_at, strip}
-use Rattle.blazor_top.specs.Options.{◌>>=◌}
-
--- options
-
-pub bind_some : {A B : Type 0} (o : Option A) (f : A → Option B) (y : B) → (o >>= f) ≡ Some y → (x : A) × (o ≡ Some x) × (f x ≡ Some y)
-bind_some (Some x) f y e = (x, refl, e)
-bind_some None f y e = cc
-
-pub some_is : {A : Type 0} (p q : A) → Some p ≡ Some q → p ≡ q
-some_is p q e = cc
-
-pub chosen : {A : Type 0} (b : Bool) (x : Option A) (y : A) → cond b None x ≡ Some y → (b ≡ false) × (x ≡ Some y)
-chosen true x y e = cc
-chosen false x y e = (refl, e)
-
-pub kept : {A : Type 0} (b : Bool) (x : Option A) (y : A) → cond b x None ≡ Some y → (b ≡ true) × (x ≡ Some y)
-kept true x y e = (refl, e)
-kept false x y e = cc
+use Rattle.blazor_top.proofs.OptionLemmas.{some_is, chosen, kept}
 
 -- fronts of a class
 

@@ -17,7 +17,8 @@ use Rattle.blazor_top.specs.Reading.Cutting.{piece_at, shown_at, literal_at, Cut
 use Rattle.blazor_top.specs.FirstPage.Pieces.{Piece, Moment, Stands}
 use Rattle.blazor_top.specs.Reading.Runs.{run_at, strip}
 use Rattle.blazor_top.specs.FirstPage.Walks.{Walk, stay, go}
-use Rattle.blazor_top.proofs.Reading.RunLemmas.{run-again, strip-again, some_is}
+use Rattle.blazor_top.proofs.OptionLemmas.{some_is}
+use Rattle.blazor_top.proofs.Reading.RunLemmas.{run-again, strip-again}
 use Rattle.blazor_top.proofs.Reading.WalkLemmas.{same_walk, SameWalk}
 use Rattle.blazor_top.proofs.Reading.PieceLemmas.{piece_at-again, no_tag}
 use Rattle.blazor_top.proofs.Reading.CodeLemmas.{one_code}
