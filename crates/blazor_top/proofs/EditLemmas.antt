@@ -5,9 +5,9 @@ use Rattle.std.proofs.Math.Seq.{take-length, take-suc}
 use Rattle.page_core.specs.declared.node.Node.{Node}
 use Rattle.blazor_top.specs.declared.rendering.Prepend.{Prepend}
 use Rattle.blazor_top.specs.Edits.{prepend, applied, Fits, edits_from}
-use Rattle.blazor_top.specs.Rendering.{fresh_node, fresh_nodes}
-use Rattle.blazor_top.specs.declared.first_page.component.Field.{Field}
-use Rattle.blazor_top.specs.declared.first_page.component.Item.{Item}
+use Rattle.first_click.specs.Rendering.{fresh_node, fresh_nodes}
+use Rattle.first_click.specs.declared.component.Field.{Field}
+use Rattle.first_click.specs.declared.component.Item.{Item}
 use Rattle.std.proofs.lemmas.List.{map-append, drop_all, length-take-le, length-map}
 use mathlib.Core.List.{append-nil}
 

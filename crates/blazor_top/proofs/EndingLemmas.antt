@@ -7,7 +7,7 @@ use Rattle.blazor_top.specs.declared.status.Status.TheVariants.{Done, Refused, U
 use Rattle.blazor_top.specs.Reply.{Contents, Holds, Lacks, Exceeds, FileSpells, Replies}
 use Rattle.blazor_top.specs.Run.{Told, Says, IsAccepted, Finishes, whole, stopped, no_memory}
 use Rattle.blazor_top.specs.Status.{code_of}
-use Rattle.blazor_top.proofs.OptionLemmas.{some_is, some_none}
+use Rattle.first_click.proofs.OptionLemmas.{some_is, some_none}
 
 status_of : ℕ → Status
 status_of n =

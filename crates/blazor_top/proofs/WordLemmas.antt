@@ -4,9 +4,9 @@ use Rattle.std.specs.Prelude.{codes}
 use Rattle.std.specs.declared.option.Option.{Option}
 use Rattle.std.specs.Str.{bytes_eq}
 use Rattle.std.proofs.lemmas.Bool.{cases_Bool}
-use Rattle.blazor_top.specs.Options.{◌>>=◌}
+use Rattle.first_click.specs.Options.{◌>>=◌}
 use Rattle.blazor_top.specs.Words.{begins_with_dash, names_in, the_one, only_name}
-use Rattle.blazor_top.proofs.OptionLemmas.{bind_some, some_is}
+use Rattle.first_click.proofs.OptionLemmas.{bind_some, some_is}
 
 no_value : {A : Type 0} (x : A) → None ≡ Some x → ⊥
 no_value x e = cc

@@ -1,10 +1,5 @@
-pub mod Options
-pub mod FirstPage
-pub mod Reading
-pub mod Rendering
 pub mod Edits
 pub mod Words
-pub mod Output
 pub mod Status
 pub mod Reply
 pub mod Run

@@ -3,11 +3,11 @@ use Rattle.std.specs.Prelude.{◌≡◌, ℕ, ◌<◌, ◌≤◌, List, [], ◌�
 use Rattle.outside.specs.declared.files.FileRead.{FileRead}
 use Rattle.outside.specs.declared.files.FileRead.TheVariants as read
 use Rattle.page_core.specs.Print.{nodes_text}
-use Rattle.blazor_top.specs.declared.first_page.component.Component.{Component}
+use Rattle.first_click.specs.declared.component.Component.{Component}
 use Rattle.blazor_top.specs.declared.status.Status.{Status}
 use Rattle.blazor_top.specs.declared.status.Status.TheVariants as status
-use Rattle.blazor_top.specs.FirstPage.Component.{Spells}
-use Rattle.blazor_top.specs.Rendering.{fresh}
+use Rattle.first_click.specs.Component.{Spells}
+use Rattle.first_click.specs.Rendering.{fresh}
 use Rattle.blazor_top.specs.Words.{rendered_file}
 
 -- the bytes at each name, where files tell them

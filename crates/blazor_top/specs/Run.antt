@@ -1,10 +1,10 @@
 -- How a run ends: what each status says of the words, of what files hold, and of what a sink tells before and after.
 use Rattle.std.specs.Prelude.{◌≡◌, ℕ, ◌≤◌, List, length, Option, Some, ◌⊎◌, encode_utf8_all}
 use Rattle.outside.specs.Sink.{Adds}
-use Rattle.blazor_top.specs.declared.first_page.component.Component.{Component}
+use Rattle.first_click.specs.declared.component.Component.{Component}
 use Rattle.blazor_top.specs.declared.status.Status.{Status}
 use Rattle.blazor_top.specs.declared.status.Status.TheVariants.{Unwritten, OutOfMemory}
-use Rattle.blazor_top.specs.Output.{AddsFront}
+use Rattle.outside.specs.Writing.{AddsFront}
 use Rattle.blazor_top.specs.Reply.{Contents, FileSpells, Replies}
 use Rattle.blazor_top.specs.Status.{code_of}
 use Rattle.blazor_top.specs.Words.{rendered_file}

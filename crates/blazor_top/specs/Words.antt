@@ -1,7 +1,7 @@
 -- What the words of the command line ask for.
 use Rattle.std.specs.Prelude.{ℕ, Bool, false, List, [], ◌∷◌, Option, Some, None, codes, if◌then◌else◌, ◌==◌}
 use Rattle.std.specs.Str.{bytes_eq}
-use Rattle.blazor_top.specs.Options.{◌>>=◌}
+use Rattle.first_click.specs.Options.{◌>>=◌}
 
 -- the first character is `-`
 abbrev pub begins_with_dash : List ℕ → Bool

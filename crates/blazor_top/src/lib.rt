@@ -6,17 +6,14 @@
 //! come only for their causes, and the line of each is written whole; 5 and 6 come only where a count of faults rose.
 //! Of objects that tell nothing, as the system's, it says that there is some content for which this holds. It does not
 //! say that memory is found, so that 9 may come at any time, nor how often a file is read. So far the one command is
-//! `render` with one name, over files of the first-page form (docs/DEFINITIONS.md).
+//! `render` with one name, over files of the first-click form (docs/DEFINITIONS.md).
 #![tactic(auto)]
 
-mod first_page;
-mod laws;
-mod output;
 mod rendering;
 mod reply;
 mod status;
 mod top;
 mod words;
 
-pub use laws::a_file_spells_one_component;
+pub use first_click::a_file_spells_one_component;
 pub use top::{Finished, run};

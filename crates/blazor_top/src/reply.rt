@@ -5,10 +5,10 @@ ghost use Rattle.outside.specs.Faults.{Rose};
 ghost use Rattle.blazor_top.specs.Words.{rendered_file};
 ghost use Rattle.blazor_top.specs.Reply.{line_about, page_line, usage_line, BytesReply, RepliesTo, Replies};
 
-use crate::first_page::{Component, read};
 use crate::rendering::page_of;
 use crate::status::Status;
 use crate::words::rendered_file;
+use first_click::{Component, read};
 use outside::{FileRead, Files};
 use page_core::print;
 use std::alloc::Global;

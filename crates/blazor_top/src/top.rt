@@ -5,10 +5,9 @@ ghost use Rattle.blazor_top.specs.Reply.{IsPage, IsRefusal, IsUsage, IsMissing, 
 ghost use Rattle.blazor_top.specs.Run.{Wrote, CutOff, IsReply, IsAccepted, Says, IsStatus, Finishes};
 ghost use Rattle.blazor_top.specs.Words.{rendered_file};
 
-use crate::output::{Written, write_all};
 use crate::reply::{Reply, reply_for};
 use crate::status::Status;
-use outside::{Files, Sink};
+use outside::{Files, Sink, Written, write_all};
 use std::alloc::Global;
 use text_core::{Oom, Txt};
 

@@ -13,6 +13,7 @@ mod mem_files;
 mod mem_sink;
 mod sink;
 mod system;
+mod writing;
 #[cfg(test)]
 mod tests;
 
@@ -21,3 +22,4 @@ pub use mem_files::MemFiles;
 pub use mem_sink::MemSink;
 pub use sink::{Sink, Wrote};
 pub use system::{Output, SystemFiles};
+pub use writing::{Written, write_all};

@@ -1,4 +1,5 @@
-//! Pages: trees of elements, texts and markup, and how they print.
+//! Pages: trees of elements, texts and markup, how they print, which node a path names, and what is said of a batch
+//! of edits to one: its counts, or why it is refused.
 //!
 //! The contracts say which characters a page prints, exactly: which characters of texts and values are escaped, in
 //! which order attributes stand, and which elements have no end tag. They do not say how a browser lays a page out,
@@ -6,13 +7,19 @@
 #![tactic(auto)]
 
 mod by_name;
+mod counts;
 mod escape;
+mod faults;
 mod node;
+mod path;
 mod printing;
 mod void;
 
 pub use by_name::{Attributes, ByName, HandlerIds};
+pub use counts::Counts;
+pub use faults::{ApplyFault, BatchFault};
 pub use node::{Node, Page};
+pub use path::at;
 pub use printing::print;
 pub use void::is_void;
 

@@ -1,2 +1,5 @@
 pub mod TextLemmas
 pub mod DecimalLemmas
+pub mod LengthGroupLemmas
+pub mod TextByteLemmas
+pub mod WordLemmas

@@ -1,2 +1,6 @@
 pub mod Ascii
 pub mod Decimal
+pub mod LengthGroups
+pub mod Standing
+pub mod TextBytes
+pub mod Words

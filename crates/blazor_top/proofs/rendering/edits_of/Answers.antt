@@ -1,11 +1,11 @@
 use Rattle.std.proofs.Common.{◌∙◌, sym, ap, [], ◌∷◌, ◌++◌, take, List}
 use Rattle.std.proofs.lemmas.List.{take_all}
-use Rattle.blazor_top.specs.declared.first_page.component.Field.{Field}
-use Rattle.blazor_top.specs.declared.first_page.component.Item.{Item}
+use Rattle.first_click.specs.declared.component.Field.{Field}
+use Rattle.first_click.specs.declared.component.Item.{Item}
 use Rattle.blazor_top.specs.declared.rendering.Prepend.{Prepend}
 use Rattle.page_core.specs.declared.node.Node.{Node}
 use Rattle.blazor_top.specs.Edits.{edits_from, prepend}
-use Rattle.blazor_top.specs.Rendering.{fresh_nodes}
+use Rattle.first_click.specs.Rendering.{fresh_nodes}
 use Rattle.blazor_top.proofs.EditLemmas.{one_more}
 use Rattle.blazor_top.proofs.rendering.edits_of.Goals as goal
 

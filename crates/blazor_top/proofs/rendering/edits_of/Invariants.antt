@@ -1,6 +1,6 @@
 use Rattle.std.proofs.Common.{◌≡◌, take}
 use Rattle.blazor_top.specs.Edits.{edits_from}
-use Rattle.blazor_top.specs.Rendering.{fresh_nodes}
+use Rattle.first_click.specs.Rendering.{fresh_nodes}
 use Rattle.blazor_top.proofs.rendering.edits_of.Given as goal
 
 -- the edits so far put the nodes of the items so far

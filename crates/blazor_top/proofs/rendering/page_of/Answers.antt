@@ -1,6 +1,6 @@
 use Rattle.std.proofs.Common.{◌∙◌, [], ap}
 use Rattle.blazor_top.specs.Edits.{applied}
-use Rattle.blazor_top.specs.Rendering.{fresh}
+use Rattle.first_click.specs.Rendering.{fresh}
 use Rattle.blazor_top.proofs.EditLemmas.{edits_from-fit, applied-edits}
 use Rattle.blazor_top.proofs.rendering.page_of.Goals as goal
 

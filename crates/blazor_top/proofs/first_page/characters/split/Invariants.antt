@@ -1,8 +1,0 @@
-use Rattle.std.proofs.Common.{◌≡◌, ◌++◌, take, drop}
-use Rattle.blazor_top.specs.Reading.Runs.{front, past}
-use Rattle.blazor_top.proofs.first_page.characters.split.Given as goal
-
-abbrev pub invariant-loop-at : goal.invariant-loop-at
-invariant-loop-at l =
-    (take l.at l.text ++ front l.class (drop l.at l.text) ≡ front l.class l.text)
-    × (past l.class (drop l.at l.text) ≡ past l.class l.text)

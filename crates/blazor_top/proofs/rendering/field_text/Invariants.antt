@@ -1,6 +1,0 @@
-use Rattle.std.proofs.Common.{◌≡◌, drop}
-use Rattle.blazor_top.specs.Rendering.{field_text}
-use Rattle.blazor_top.proofs.rendering.field_text.Given as goal
-
-abbrev pub invariant-loop-field : goal.invariant-loop-field
-invariant-loop-field l = field_text (drop l.field-index l.fields) l.name ≡ field_text l.fields l.name

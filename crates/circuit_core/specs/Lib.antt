@@ -1,0 +1,5 @@
+pub mod Replies
+pub mod Kept
+pub mod Parts
+pub mod Standing
+pub mod Acknowledging

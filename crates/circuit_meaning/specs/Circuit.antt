@@ -1,0 +1,5 @@
+-- The server's end of a circuit, over any stage.
+pub mod State
+pub mod Batches
+pub mod Steps
+pub mod Runs

@@ -1,0 +1,3 @@
+pub mod Browser
+pub mod Circuit
+pub mod Rules

@@ -1,0 +1,3 @@
+pub mod EventSize
+pub mod Pieces
+pub mod Standing

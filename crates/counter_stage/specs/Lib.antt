@@ -1,0 +1,4 @@
+pub mod Tree
+pub mod Counter
+pub mod Button
+pub mod Laws

@@ -1,0 +1,8 @@
+pub mod Tokens
+pub mod Tables
+pub mod Types
+pub mod Expressions
+pub mod Statements
+pub mod Lambdas
+pub mod Members
+pub mod Nesting

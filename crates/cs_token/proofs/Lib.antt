@@ -1,0 +1,17 @@
+pub mod OptionLemmas
+pub mod FindLemmas
+pub mod CharacterLemmas
+pub mod RunLemmas
+pub mod WordLemmas
+pub mod SignLemmas
+pub mod WrittenLemmas
+pub mod CommentLemmas
+pub mod SoundLemmas
+pub mod OpenedLemmas
+pub mod FrontLengths
+pub mod WalkLemmas
+pub mod LexLemmas
+pub mod ExactLemmas
+pub mod LawLemmas
+pub mod CoverLemmas
+pub mod DecidedLemmas

@@ -1,0 +1,34 @@
+-- Steps one after another.
+use Rattle.std.proofs.Common.{◌≡◌, List, [], ◌∷◌, ◌++◌, Some, None, refl, ap, sym, ◌∙◌, subst}
+use Rattle.std.specs.declared.option.Option.{Option}
+use Rattle.cs_token.specs.Walks.{Walk}
+use Rattle.cs_token.specs.Walks as w
+
+-- one more step
+pub walk-more : {State Thing : Type 0} (Step : State → Thing → State → Type 0) (a b c : State) (xs : List Thing) (x : Thing)
+    → Walk Step a xs b → Step b x c → Walk Step a (xs ++ x ∷ []) c
+walk-more Step _ _ c _ x (w.stay a) step = w.go a c c x [] step (w.stay c)
+walk-more Step _ _ c _ x (w.go a next there y ys first rest) step =
+    w.go a next c y (ys ++ x ∷ []) first (walk-more Step next there c ys x rest step)
+
+-- two walks from one state, by steps that a function gives, end alike where it gives no more
+pub record SameWalk {State Thing : Type 0} (xs ys : List Thing) (b c : State) : Type 0 where
+  pub things : xs ≡ ys
+  pub ends : b ≡ c
+
+module _ {State Thing : Type 0} (Step : State → Thing → State → Type 0) (next : State → Option (Thing × State))
+    (again : (a : State) (x : Thing) (b : State) → Step a x b → next a ≡ Some (x, b)) where
+  pub same_walk : (a b c : State) (xs ys : List Thing) → Walk Step a xs b → Walk Step a ys c → next b ≡ None → next c ≡ None → SameWalk xs ys b c
+  same_walk _ _ _ _ _ (w.stay a) (w.stay _) stop_b stop_c = record { things = refl; ends = refl }
+  same_walk _ _ _ _ _ (w.stay a) (w.go _ n there x xs step rest) stop_b stop_c =
+      let given = again a x n step in absurd (cc)
+  same_walk _ _ _ _ _ (w.go a n there x xs step rest) (w.stay _) stop_b stop_c =
+      let given = again a x n step in absurd (cc)
+  same_walk _ _ _ _ _ (w.go a n b x xs step rest) (w.go _ m c y ys other more) stop_b stop_c =
+      let made : Thing × State = (x, n) in
+      let want : Thing × State = (y, m) in
+      let same : made ≡ want = let p = again a x n step in let q = again a y m other in let r : Some made ≡ Some want = sym p ∙ q in cc in
+      let first : x ≡ y = ap (λ (z : Thing × State). z.0) same in
+      let second : n ≡ m = ap (λ (z : Thing × State). z.1) same in
+      let tail = same_walk n b c xs ys rest (subst (λ (s : State). Walk Step s ys c) (sym second) more) stop_b stop_c in
+      record { things = cc; ends = tail.ends }

@@ -1,0 +1,12 @@
+pub mod Characters
+pub mod Words
+pub mod Signs
+pub mod Written
+pub mod Faults
+pub mod Walks
+pub mod Places
+pub mod Lexemes
+pub mod Wrong
+pub mod Spelling
+pub mod Cover
+pub mod Reading

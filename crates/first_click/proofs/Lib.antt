@@ -1,0 +1,4 @@
+pub mod OptionLemmas
+pub mod ListLemmas
+pub mod Reading
+pub mod FormLemmas

@@ -1,0 +1,5 @@
+pub mod Options
+pub mod Reading
+pub mod Screen
+pub mod Spelling
+pub mod Stage

@@ -1,0 +1,8 @@
+-- Values that may be absent.
+use Rattle.std.specs.Prelude.{Option, Some, None}
+
+-- what the function gives of the value, if there is one
+infixl 10 ◌>>=◌
+abbrev pub ◌>>=◌ : {A B : Type 0} → Option A → (A → Option B) → Option B
+(Some x) >>= f = f x
+None >>= f = None

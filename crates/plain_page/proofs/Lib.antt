@@ -1,0 +1,9 @@
+pub mod ChangeLemmas
+pub mod SoundLemmas
+pub mod TurningLemmas
+pub mod FewLemmas
+pub mod FreshLemmas
+pub mod RunLemmas
+pub mod StageLemmas
+pub mod PresentLemmas
+pub mod SpelledLemmas

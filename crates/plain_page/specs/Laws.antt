@@ -1,0 +1,4 @@
+pub mod Nodes
+pub mod Reading
+pub mod Turning
+pub mod Machine

@@ -1,0 +1,13 @@
+pub mod Changes
+pub mod Click
+pub mod Plain
+pub mod Reading
+pub mod Spelling
+pub mod Turning
+pub mod Showing
+pub mod Laws
+pub mod Present
+pub mod Running
+pub mod Machine
+pub mod Standing
+pub mod Runnable
