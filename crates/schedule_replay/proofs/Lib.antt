@@ -1,2 +1,5 @@
 mod BoundLemmas
+mod Line
 mod ScheduleLemmas
+mod NumberLemmas
+mod TextLemmas

@@ -1,3 +1,5 @@
 pub mod Every
+pub mod Line
 pub mod Reading
 pub mod Schedule
+pub mod Texts

@@ -4,11 +4,15 @@
 //! what every schedule that it gives keeps to. It does not say what a schedule does.
 #![tactic(auto)]
 
+mod direct_line;
 mod json;
 mod reading;
+mod replaying;
 mod schedule;
+mod texts;
 
 pub use reading::read_schedule;
+pub use replaying::replay;
 pub use schedule::{Schedule, ScheduleFault, Step, UserStep};
 
 #[cfg(test)]
