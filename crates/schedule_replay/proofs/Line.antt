@@ -10,3 +10,4 @@ pub mod ReplyLemmas
 pub mod ServerLemmas
 pub mod FlowLemmas
 pub mod LeadLemmas
+pub mod TurnLemmas

@@ -30,7 +30,7 @@ fn flow<T: Turns, S: Stage<Tree = T> + Drop, V: PrintScreen + Screen<Tree = T> +
 {
     let mut line = line;
     for _turn in 0..count {
-        if line.delivered == line.messages.len() {
+        if line.delivered >= line.messages.len() {
             return Ok(line);
         }
         let (next, text) = line.deliver()?;

@@ -82,9 +82,9 @@ module _ {Tree : Type 0} (ends : Ends Tree) (first : Tree) (rows : List (BatchRo
       } in
       (shows_now, (row, subst (λ (n : ℕ). batch_row rows n ≡ Some row) (sym turned.0) found, counted, tree))
   turned-sees number bytes before after (gt.BadBatch (sf.Read fault)) ups shows next is turned =
-      (shows-same ends first rows before after shows (ap (λ (b : BrowserState Tree). b.tree) turned.2) (ap (λ (b : BrowserState Tree). b.status.applied) turned.2), tt)
+      (shows-same ends first rows before after shows (ap (λ (b : BrowserState Tree). b.tree) turned.3) (ap (λ (b : BrowserState Tree). b.status.applied) turned.3), tt)
   turned-sees number bytes before after (gt.BadBatch (sf.Apply fault)) ups shows next is turned =
-      (shows-same ends first rows before after shows (ap (λ (b : BrowserState Tree). b.tree) turned.2) (ap (λ (b : BrowserState Tree). b.status.applied) turned.2), tt)
+      (shows-same ends first rows before after shows (ap (λ (b : BrowserState Tree). b.tree) turned.3) (ap (λ (b : BrowserState Tree). b.status.applied) turned.3), tt)
   turned-sees number bytes before after _ ups shows next is turned = absurd turned
 
   batch-sees : (number : ℕ) (bytes : List ℕ) (before after : BrowserState Tree) (got : Got) (ups : List Up) → Shows ends first rows before

@@ -1,5 +1,6 @@
 -- Deliveries and steps, one behind another.
 use Rattle.std.proofs.Common.{◌≡◌, ◌≤◌, ◌<◌, ◌⊎◌, ℕ, zero, suc, ◌+◌, Bool, true, false, List, [], ◌∷◌, ◌++◌, length, slice_get, Some, None, refl, ap, sym, ◌∙◌, subst, arith, append_assoc, append-nil, inl, inr, map, sum}
+use Rattle.std.specs.List.{fold}
 use Rattle.std.specs.Prelude.{nat_lt}
 use Rattle.std.specs.declared.option.Option.{Option}
 use Rattle.circuit_meaning.specs.Browser.Receives.{Where}
@@ -14,6 +15,18 @@ use Rattle.schedule_replay.specs.Schedule.{weight, weights}
 fewer : (count all : ℕ) (P : Type 0) → (suc count ≡ suc all) ⊎ P → (count ≡ all) ⊎ P
 fewer count all P (inl same) = inl (omega (arith, same))
 fewer count all P (inr other) = inr other
+
+fold-add : (a b : ℕ) (xs : List ℕ) → fold ◌+◌ (a + b) xs ≡ a + fold ◌+◌ b xs
+fold-add a b [] = refl
+fold-add a b (x ∷ xs) =
+    let same : (a + b) + x ≡ a + (b + x) = omega arith in
+    ap (λ (n : ℕ). fold ◌+◌ n xs) same ∙ fold-add a (b + x) xs
+
+-- the weight of the first, and of the others
+pub weights-more : (step : Step) (steps : List Step) → weights (step ∷ steps) ≡ weight step + weights steps
+weights-more step steps =
+    let start : 0 + weight step ≡ weight step + 0 = omega arith in
+    ap (λ (n : ℕ). fold ◌+◌ n (map weight steps)) start ∙ fold-add (weight step) 0 (map weight steps)
 
 module _ {Tree : Type 0} (ends : Ends Tree) where
   abbrev State : Type 0
@@ -89,7 +102,7 @@ module _ {Tree : Type 0} (ends : Ends Tree) where
   runs-steps (step ∷ steps) before after lines done =
       let first = step-steps step before done.2 done.0 done.3 in
       let rest = runs-steps steps done.2 after done.1 done.4 in
-      let total : weights (step ∷ steps) ≡ weight step + weights steps = refl in
+      let total = weights-more step steps in
       omega (arith, first, rest, total)
 
   -- one more step

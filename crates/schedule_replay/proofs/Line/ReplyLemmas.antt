@@ -36,7 +36,7 @@ spelled-more before middle replies reply content so_far spells =
         ∙ ap (λ (ms : List Bytes). before ++ ms) (sym (map-push bytes.Down pieces content)),
       zip-append SpellsDown pieces replies (content ∷ []) (reply ∷ []) so_far.2 (spells, tt))
 
-take-push : {A : Type 0} (xs : List A) (place : ℕ) (x : A) → slice_get xs place ≡ Some x → take (place + 1) xs ≡ take place xs ++ x ∷ []
+pub take-push : {A : Type 0} (xs : List A) (place : ℕ) (x : A) → slice_get xs place ≡ Some x → take (place + 1) xs ≡ take place xs ++ x ∷ []
 take-push [] place x found = absurd (cc)
 take-push (y ∷ xs) zero x found = let same : y ≡ x = cc in ap (λ (z : _). z ∷ []) same
 take-push (y ∷ xs) (suc place) x found =

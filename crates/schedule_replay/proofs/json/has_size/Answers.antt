@@ -1,7 +1,6 @@
-use Rattle.std.proofs.Common.{rules, ◌≡◌, length, nat_eq, Some, refl, sym}
+use Rattle.std.proofs.Common.{rules, ◌≡◌, length, Some, refl}
 use Rattle.serde_json.specs.Find.{as_object}
 use Rattle.serde_json.specs.View.{view, members_view}
-use Rattle.schedule_replay.specs.Schedule.{has_size}
 use Rattle.schedule_replay.proofs.ScheduleLemmas.{count-view}
 use Rattle.schedule_replay.proofs.json.has_size.Goals as goal
 

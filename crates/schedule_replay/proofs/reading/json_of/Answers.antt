@@ -1,4 +1,4 @@
-use Rattle.std.proofs.Common.{rules, ◌≡◌, true, false}
+use Rattle.std.proofs.Common.{rules}
 use Rattle.serde_json.specs.Errors.{IsMemory}
 use Rattle.schedule_replay.proofs.ScheduleLemmas.{json-read, json-refused}
 use Rattle.schedule_replay.proofs.reading.json_of.Goals as goal

@@ -1,4 +1,4 @@
-use Rattle.std.proofs.Common.{rules, ap, sym, ◌∙◌, ◌≡◌, ◌++◌, subst}
+use Rattle.std.proofs.Common.{rules, ap, ◌∙◌, ◌≡◌, ◌++◌, subst}
 use Rattle.std.specs.Fmt.{decimal}
 use Rattle.std.specs.Result.{OnOk}
 use Rattle.std.specs.Str.{chars}

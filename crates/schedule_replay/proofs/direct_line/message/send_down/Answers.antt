@@ -1,11 +1,9 @@
-use Rattle.std.proofs.Common.{rules, ◌≡◌, ◌++◌, ◌∷◌, ◌+◌, [], Some, slice_get, take, length, refl}
+use Rattle.std.proofs.Common.{rules, ◌≡◌, ◌++◌, ◌∷◌, [], Some, slice_get, length, refl}
 use Rattle.std.proofs.lemmas.Option.{slice_get_read}
-use Rattle.schedule_replay.specs.Every.{Every}
 use Rattle.schedule_replay.specs.Line.InStep.{IsShortReply}
-use Rattle.schedule_replay.specs.Line.Standing.{SpelledDown}
 use Rattle.schedule_replay.specs.declared.direct_line.message.Message.TheVariants as bytes
 use Rattle.schedule_replay.proofs.Line.EveryLemmas.{every-at}
-use Rattle.schedule_replay.proofs.Line.ReplyLemmas.{reply-fits, spelled-more, take-more}
+use Rattle.schedule_replay.proofs.Line.ReplyLemmas.{reply-fits, take-more}
 use Rattle.schedule_replay.proofs.direct_line.message.send_down.Goals as goal
 
 pub encode_down-requires : goal.encode_down-requires

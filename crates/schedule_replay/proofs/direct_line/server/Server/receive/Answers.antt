@@ -1,4 +1,3 @@
-use Rattle.std.proofs.Common.{rules, ◌≡◌}
 use Rattle.schedule_replay.proofs.Line.ServerLemmas.{if-ok, serving-receives, waiting-starts}
 use Rattle.schedule_replay.proofs.direct_line.server.Server.receive.Goals as goal
 

@@ -1,4 +1,4 @@
-use Rattle.std.proofs.Common.{rules, ◌≡◌, ◌<◌, Err, Some, slice_get, length, ap, sym, ◌∙◌, subst, refl, List, ℕ}
+use Rattle.std.proofs.Common.{◌≡◌, Err, Some, slice_get, length, ap, sym, ◌∙◌, subst, refl, List, ℕ}
 use Rattle.std.proofs.lemmas.Option.{slice_get_read}
 use Rattle.hub_messages.specs.Spelling.Spells.{SpellsUp, SpellsDown}
 use Rattle.hub_messages.specs.declared.hub_fault.HubFault.TheVariants.{Malformed}
