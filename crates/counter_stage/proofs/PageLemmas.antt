@@ -7,12 +7,13 @@ use Rattle.std.specs.Fmt.{decimal}
 use Rattle.page_core.specs.Path.{children_of, inside, node_behind}
 use Rattle.page_core.specs.declared.node.Node.{Node}
 use Rattle.page_core.specs.declared.node.Node.TheOpen as node
+use Rattle.page_core.specs.declared.node.Node.TheVariants as v
 use Rattle.page_core.specs.declared.node.Node.TheViews.{out-roll-Node, roll-Node}
 use Rattle.page_core.specs.ByName.{value_of}
 use Rattle.hub_messages.specs.Screen.{found_at, found_id, found_in, found_on}
 use Rattle.hub_messages.specs.declared.screen.At.{At}
 use Rattle.hub_messages.specs.declared.screen.At.TheVariants.{NoNode, NoHandler, Handler}
-use Rattle.counter_stage.specs.Tree.{page_of, button}
+use Rattle.counter_stage.specs.Tree.{page_of, button, text_of}
 use Rattle.counter_stage.specs.Button.{found_by, is_first}
 use Rattle.counter_stage.specs.declared.tree.CounterTree.TheVariants.{Shows}
 
@@ -51,3 +52,13 @@ found-button number (zero ∷ zero ∷ path) event =
 found-button number (zero ∷ suc below ∷ path) event =
     subst (λ (nodes : List Node). NoNode ≡ found_in (node_behind (slice_get nodes (suc below)) path) event) (sym (children-button number)) refl
 found-button number (suc place ∷ below ∷ path) event = refl
+
+-- the parts of a button make it
+pub button-made : (name : List ℕ) (attributes : List (List ℕ × List ℕ)) (handlers : List (List ℕ × ℕ)) (children : List Node) (number : ℕ)
+    → name ≡ codes "button" → attributes ≡ [] → handlers ≡ (codes "onclick", 1) ∷ [] → children ≡ text_of number → v.Element 1 name attributes handlers children ≡ button number
+button-made name attributes handlers children number named bare handled shown =
+    ap (λ (n : List ℕ). v.Element 1 n attributes handlers children) named
+    ∙ ap (λ (a : List (List ℕ × List ℕ)). v.Element 1 (codes "button") a handlers children) bare
+    ∙ ap (λ (h : List (List ℕ × ℕ)). v.Element 1 (codes "button") [] h children) handled
+    ∙ ap (λ (c : List Node). v.Element 1 (codes "button") [] ((codes "onclick", 1) ∷ []) c) shown
+    ∙ sym (v.rolls-Element 1 (codes "button") [] ((codes "onclick", 1) ∷ []) (text_of number))

@@ -8,10 +8,13 @@ use Rattle.page_core.specs.declared.node.Node.TheViews.{roll-Node}
 use Rattle.counter_stage.specs.declared.tree.CounterTree.{CounterTree}
 use Rattle.counter_stage.specs.declared.tree.CounterTree.TheVariants.{Blank, Shows}
 
+-- the text of a number
+abbrev pub text_of : ℕ → List Node
+text_of number = roll-Node (node.Text 1 (decimal number)) ∷ []
+
 -- a button with the number, whose handler of clicks has the id 1
 abbrev pub button : ℕ → Node
-button number =
-    roll-Node (node.Element 1 (codes "button") [] ((codes "onclick", 1) ∷ []) (roll-Node (node.Text 1 (decimal number)) ∷ []))
+button number = roll-Node (node.Element 1 (codes "button") [] ((codes "onclick", 1) ∷ []) (text_of number))
 
 -- the page of a tree
 abbrev pub page_of : CounterTree → List Node

@@ -5,6 +5,7 @@
 //! `onclick` has the id 1, other events come to nothing, and a click at 255 is a fault.
 #![tactic(auto)]
 
+mod printing;
 mod screen;
 mod stage;
 mod tree;

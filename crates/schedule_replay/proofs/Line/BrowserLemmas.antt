@@ -49,15 +49,17 @@ module _ {Tree : Type 0} (ends : Ends Tree) (first : Tree) (rows : List (BatchRo
 
   only-sees : (answer got : Got) (ups : List Up) (before after : BrowserState Tree) → ((tree : Tree) → IsBatchOf ends.machine rows tree answer) → Shows ends first rows before
       → Only answer before got ups after → Sees after got
-  only-sees answer got ups before after plain shows only =
-      (shows-same ends first rows before after shows (ap (λ (b : BrowserState Tree). b.tree) only.2) (ap (λ (b : BrowserState Tree). b.status.applied) only.2),
-      subst (λ (g : Got). IsBatchOf ends.machine rows after.tree g) (sym only.0) (plain after.tree))
+  only-sees answer got ups before after plain shows only = (
+    shows-same ends first rows before after shows (ap (λ (b : BrowserState Tree). b.tree) only.2) (ap (λ (b : BrowserState Tree). b.status.applied) only.2),
+    subst (λ (g : Got). IsBatchOf ends.machine rows after.tree g) (sym only.0) (plain after.tree),
+  )
 
   kept-sees : (answer got : Got) (before after next : BrowserState Tree) → ((tree : Tree) → IsBatchOf ends.machine rows tree answer) → Shows ends first rows before
       → next.tree ≡ before.tree → next.status.applied ≡ before.status.applied → got ≡ answer → after ≡ next → Sees after got
-  kept-sees answer got before after next plain shows tree applied said is =
-      (shows-same ends first rows before after shows (ap (λ (b : BrowserState Tree). b.tree) is ∙ tree) (ap (λ (b : BrowserState Tree). b.status.applied) is ∙ applied),
-      subst (λ (g : Got). IsBatchOf ends.machine rows after.tree g) (sym said) (plain after.tree))
+  kept-sees answer got before after next plain shows tree applied said is = (
+    shows-same ends first rows before after shows (ap (λ (b : BrowserState Tree). b.tree) is ∙ tree) (ap (λ (b : BrowserState Tree). b.status.applied) is ∙ applied),
+    subst (λ (g : Got). IsBatchOf ends.machine rows after.tree g) (sym said) (plain after.tree),
+  )
 
   turned-sees : (number : ℕ) (bytes : List ℕ) (before after : BrowserState Tree) (got : Got) (ups : List Up) → Shows ends first rows before
       → number ≡ before.status.applied + 1 → IsOf rows (dn.Batch number bytes) → Turned ends.turns number bytes before got ups after → Sees after got
@@ -93,10 +95,10 @@ module _ {Tree : Type 0} (ends : Ends Tree) (first : Tree) (rows : List (BatchRo
       where-cases (nat_le number before.status.applied) _ _ (Sees after got) takes
       (λ test again. kept-sees (gt.AgainAcked number) got before after before (λ tree. tt) shows refl refl again.0 again.2)
       (λ above other. where-cases (nat_lt (before.status.applied + 1) number) _ _ (Sees after got) other
-        (λ test only. only-sees (gt.NotNext (before.status.applied + 1)) got ups before after (λ tree. tt) shows only)
-        (λ below turned.
-          let next : number ≡ before.status.applied + 1 = grind (arith, nat_tests, above, below) in
-          turned-sees number bytes before after got ups shows next is turned))
+      (λ test only. only-sees (gt.NotNext (before.status.applied + 1)) got ups before after (λ tree. tt) shows only)
+      (λ below turned.
+      let next : number ≡ before.status.applied + 1 = grind (arith, nat_tests, above, below) in
+      turned-sees number bytes before after got ups shows next is turned))
 
   hears-sees : (message : Down) (before after : BrowserState Tree) (got : Got) (ups : List Up) → Shows ends first rows before → IsOf rows message
       → Hears ends.turns message before got ups after → Sees after got
@@ -117,10 +119,10 @@ module _ {Tree : Type 0} (ends : Ends Tree) (first : Tree) (rows : List (BatchRo
   hears-sees (dn.Outcome event outcome) before after got ups shows is hears =
       where-cases before.status.opened _ _ (Sees after got) hears
       (λ test takes. where-cases (is_unanswered event before.unanswered) _ _ (Sees after got) takes
-        (λ waits answered. kept-sees (gt.Answered event outcome) got before after _ (λ tree. tt) shows refl refl answered.0 answered.2)
-        (λ not_waiting other. where-cases (was_asked before.status.asked event) _ _ (Sees after got) other
-          (λ asked only. only-sees (gt.AnsweredAgain event) got ups before after (λ tree. tt) shows only)
-          (λ never only. only-sees gt.Stray got ups before after (λ tree. tt) shows only)))
+      (λ waits answered. kept-sees (gt.Answered event outcome) got before after _ (λ tree. tt) shows refl refl answered.0 answered.2)
+      (λ not_waiting other. where-cases (was_asked before.status.asked event) _ _ (Sees after got) other
+      (λ asked only. only-sees (gt.AnsweredAgain event) got ups before after (λ tree. tt) shows only)
+      (λ never only. only-sees gt.Stray got ups before after (λ tree. tt) shows only)))
       (λ test only. only-sees gt.NotOpen got ups before after (λ tree. tt) shows only)
 
   pub receives-sees : (connection : ℕ) (message : Down) (before after : BrowserState Tree) (got : Got) (ups : List Up) → Shows ends first rows before → IsOf rows message

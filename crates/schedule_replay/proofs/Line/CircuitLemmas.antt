@@ -48,7 +48,7 @@ sound-kept ends first before after sound same count stage = record {
   sent = count ∙ sound.sent ∙ ap length (sym same);
   made = λ runs. let kept = stage runs in kept.1 ∙ sound.made kept.0 ∙ ap length (sym same);
   tree = λ runs. let kept = stage runs in kept.2 ∙ sound.tree kept.0
-    ∙ ap (λ (rows : List (BatchRow ends.machine.State)). tree_after ends.machine first rows (length rows)) (sym same);
+      ∙ ap (λ (rows : List (BatchRow ends.machine.State)). tree_after ends.machine first rows (length rows)) (sym same);
 }
 
 pub grows-same : {Tree : Type 0} (ends : Ends Tree) (first : Tree) (before after : CircuitState ends.machine.State) (replies : List Down) → IsSound ends first after
@@ -76,7 +76,8 @@ module _ {Tree : Type 0} (ends : Ends Tree) (first : Tree) (lawful : IsLawful fi
   with_batch before bytes stage = record before {
     stage = stage;
     status = record before.status { sent = before.status.sent + 1 };
-    batches = before.batches ++ record { bytes = bytes; stage = stage } ∷ [] }
+    batches = before.batches ++ record { bytes = bytes; stage = stage } ∷ [];
+  }
 
   batch-sound : (before : Circuit) (bytes : List ℕ) (stage : State) → before.status.ended ≡ None → IsSound ends first before
       → ends.machine.Renders before.stage (md.Batch bytes) stage → IsSound ends first (with_batch before bytes stage)
@@ -94,7 +95,7 @@ module _ {Tree : Type 0} (ends : Ends Tree) (first : Tree) (lawful : IsLawful fi
         sent = ap (λ (n : ℕ). n + 1) sound.sent ∙ sym longer;
         made = λ still. lawful.render.made before.stage stage (md.Batch bytes) rendered ∙ ap (λ (n : ℕ). n + 1) (sound.made runs) ∙ sym longer;
         tree = λ still. sym (subst (λ (n : ℕ). tree_after ends.machine first (before.batches ++ row ∷ []) n ≡ ends.machine.tree stage) (sym longer)
-          (after-next ends.machine first (before.batches ++ row ∷ []) (length before.batches) row (get-behind before.batches row)));
+            (after-next ends.machine first (before.batches ++ row ∷ []) (length before.batches) row (get-behind before.batches row)));
       }
 
   batch-found : (before : Circuit) (bytes : List ℕ) (stage : State) → IsSound ends first before

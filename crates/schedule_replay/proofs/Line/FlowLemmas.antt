@@ -78,7 +78,7 @@ module _ {Tree : Type 0} (ends : Ends Tree) where
   flows-cases : (count : ℕ) (fresh : Bool) (before after : State) (lines : List (List ℕ)) → is_fresh before ≡ fresh
       → ((next : State) (more : List (List ℕ)) → Flows ends count next more after → after.steps ≤ next.steps + count)
       → Where fresh ((line : List ℕ) × (more : List (List ℕ)) × (next : State) × Delivers ends (slice_get before.messages before.delivered) before line next
-        × Flows ends count next more after × (lines ≡ line ∷ more)) ((lines ≡ []) × (after ≡ before))
+      × Flows ends count next more after × (lines ≡ line ∷ more)) ((lines ≡ []) × (after ≡ before))
       → after.steps ≤ before.steps + suc count
   flows-cases count true before after lines is rest done =
       let first = delivers-steps (slice_get before.messages before.delivered) before done.2 done.0 done.3 in
@@ -112,6 +112,11 @@ module _ {Tree : Type 0} (ends : Ends Tree) where
       let Next : State → Type 0 = λ x. Runs ends (step ∷ []) x more after in
       let one : Next middle = (more, [], after, does, (refl, refl), sym (append-nil more)) in
       subst (λ (ls : List (List ℕ)). Runs ends (step ∷ []) before (ls ++ more) after) (sym done.0) (subst Next done.1 one)
-  runs-more (other ∷ steps) step before middle after lines more done does =
-      (done.0, done.1 ++ more, done.2, done.3, runs-more steps step done.2 middle after done.1 more done.4 does,
-        ap (λ (ls : List (List ℕ)). ls ++ more) done.5 ∙ append_assoc done.0 done.1 more)
+  runs-more (other ∷ steps) step before middle after lines more done does = (
+    done.0,
+    done.1 ++ more,
+    done.2,
+    done.3,
+    runs-more steps step done.2 middle after done.1 more done.4 does,
+    ap (λ (ls : List (List ℕ)). ls ++ more) done.5 ∙ append_assoc done.0 done.1 more,
+  )

@@ -29,7 +29,7 @@ module _ {Stage Screen Tree : Type 0} (machine : Machine Tree) (stands : Stage �
       → (next : State) × StandsLine (E stage window) first stands tree after next × (after.window ≡ window) × Step (E stage window) state next
   lead-one before after Step leads stage begins window same =
       let From : ℕ → Type 0 = λ w. (state : State) → StandsLine (E stage w) first stands tree before state
-        → (next : State) × StandsLine (E stage w) first stands tree after next × (after.window ≡ w) × Step (E stage w) state next in
+      → (next : State) × StandsLine (E stage w) first stands tree after next × (after.window ≡ w) × Step (E stage w) state next in
       subst From same (leads stage begins)
 
   -- one more step
@@ -39,16 +39,21 @@ module _ {Stage Screen Tree : Type 0} (machine : Machine Tree) (stands : Stage �
       → LeadsLines machine stands first turns page tree before after old (new ++ text ∷ []) C
   lead-more before middle after old new text A C B leads step join stage begins state stood =
       let made = leads stage begins state stood in
-      let one = lead-one middle after B step stage begins before.window made.3 made.0 made.2 in
-      (one.0, made.1 ++ text ∷ [], one.1, one.2, ap (λ (ls : List (List ℕ)). ls ++ text ∷ []) made.4 ∙ append_assoc old made.1 (text ∷ []),
-        join (E stage before.window) state made.0 one.0 made.1 made.5 one.3)
+      let one = lead-one middle after B step stage begins before.window made.3 made.0 made.2 in (
+        one.0,
+        made.1 ++ text ∷ [],
+        one.1,
+        one.2,
+        ap (λ (ls : List (List ℕ)). ls ++ text ∷ []) made.4 ∙ append_assoc old made.1 (text ∷ []),
+        join (E stage before.window) state made.0 one.0 made.1 made.5 one.3,
+      )
 
   lead-lines : (before after : Code) (old new : List (List ℕ)) (B : SomeSteps) → LeadsLines machine stands first turns page tree before after old new B → (stage : machine.State) → machine.First stage → (window : ℕ) → before.window ≡ window
       → (state : State) → StandsLine (E stage window) first stands tree before state
       → (next : State) × (more : List (List ℕ)) × StandsLine (E stage window) first stands tree after next × (after.window ≡ window) × (new ≡ old ++ more) × B (E stage window) state more next
   lead-lines before after old new B leads stage begins window same =
       let From : ℕ → Type 0 = λ w. (state : State) → StandsLine (E stage w) first stands tree before state
-        → (next : State) × (more : List (List ℕ)) × StandsLine (E stage w) first stands tree after next × (after.window ≡ w) × (new ≡ old ++ more) × B (E stage w) state more next in
+      → (next : State) × (more : List (List ℕ)) × StandsLine (E stage w) first stands tree after next × (after.window ≡ w) × (new ≡ old ++ more) × B (E stage w) state more next in
       subst From same (leads stage begins)
 
   -- steps behind steps
@@ -58,9 +63,14 @@ module _ {Stage Screen Tree : Type 0} (machine : Machine Tree) (stands : Stage �
       → LeadsLines machine stands first turns page tree before after old newest C
   lead-all before middle after old new newest A B C leads steps join stage begins state stood =
       let made = leads stage begins state stood in
-      let rest = lead-lines middle after new newest B steps stage begins before.window made.3 made.0 made.2 in
-      (rest.0, made.1 ++ rest.1, rest.2, rest.3, rest.4 ∙ ap (λ (ls : List (List ℕ)). ls ++ rest.1) made.4 ∙ append_assoc old made.1 rest.1,
-        join (E stage before.window) state made.0 rest.0 made.1 rest.1 made.5 rest.5)
+      let rest = lead-lines middle after new newest B steps stage begins before.window made.3 made.0 made.2 in (
+        rest.0,
+        made.1 ++ rest.1,
+        rest.2,
+        rest.3,
+        rest.4 ∙ ap (λ (ls : List (List ℕ)). ls ++ rest.1) made.4 ∙ append_assoc old made.1 rest.1,
+        join (E stage before.window) state made.0 rest.0 made.1 rest.1 made.5 rest.5,
+      )
 
   -- no step yet
   pub lead-none : (line : Code) (lines : List (List ℕ)) (A : SomeSteps) → ((ends : Ends Tree) (state : LineState ends.machine.State Tree) → A ends state [] state)

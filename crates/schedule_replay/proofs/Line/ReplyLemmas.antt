@@ -29,12 +29,13 @@ map-push f (y ∷ xs) x = ap (λ (t : List _). f y ∷ t) (map-push f xs x)
 pub spelled-more : (before middle : List Bytes) (replies : List Down) (reply : Down) (content : List ℕ) → SpelledDown before replies middle → SpellsDown content reply
     → SpelledDown before (replies ++ reply ∷ []) (middle ++ bytes.Down content ∷ [])
 spelled-more before middle replies reply content so_far spells =
-    let pieces : List (List ℕ) = so_far.0 in
-    (pieces ++ content ∷ [],
+    let pieces : List (List ℕ) = so_far.0 in (
+      pieces ++ content ∷ [],
       ap (λ (ms : List Bytes). ms ++ bytes.Down content ∷ []) so_far.1
-        ∙ append_assoc before (map bytes.Down pieces) (bytes.Down content ∷ [])
-        ∙ ap (λ (ms : List Bytes). before ++ ms) (sym (map-push bytes.Down pieces content)),
-      zip-append SpellsDown pieces replies (content ∷ []) (reply ∷ []) so_far.2 (spells, tt))
+          ∙ append_assoc before (map bytes.Down pieces) (bytes.Down content ∷ [])
+          ∙ ap (λ (ms : List Bytes). before ++ ms) (sym (map-push bytes.Down pieces content)),
+      zip-append SpellsDown pieces replies (content ∷ []) (reply ∷ []) so_far.2 (spells, tt),
+    )
 
 pub take-push : {A : Type 0} (xs : List A) (place : ℕ) (x : A) → slice_get xs place ≡ Some x → take (place + 1) xs ≡ take place xs ++ x ∷ []
 take-push [] place x found = absurd (cc)

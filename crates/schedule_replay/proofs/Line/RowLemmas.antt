@@ -77,22 +77,24 @@ chain-more {Tree} ends first rows row chain turned place found at =
     let State : Type 0 = ends.machine.State in
     let tree : ℕ → Tree = λ n. tree_after ends.machine first (rows ++ row ∷ []) n in
     elim (cases_lt place (length rows)) [
-      inl early ↦
-        subst (λ (t : Tree). Turns ends (place + 1) found t) (sym (after-front ends.machine first rows (row ∷ []) place (omega arith)))
-        (chain place found (sym (get-front rows (row ∷ []) place early) ∙ at))
-    | inr late ↦
-        let last = get-last rows row found place at late in
-        let moved : Turns ends (length rows + 1) row (tree (length rows)) =
-        subst (λ (t : Tree). Turns ends (length rows + 1) row t) (sym (after-front ends.machine first rows (row ∷ []) (length rows) (omega arith))) turned in
-        let placed : Turns ends (place + 1) row (tree place) = subst (λ (n : ℕ). Turns ends (n + 1) row (tree n)) (sym last.0) moved in
-        subst (λ (r : BatchRow ends.machine.State). Turns ends (place + 1) r (tree place)) last.1 placed ]
+      | inl early ↦
+          subst (λ (t : Tree). Turns ends (place + 1) found t) (sym (after-front ends.machine first rows (row ∷ []) place (omega arith)))
+          (chain place found (sym (get-front rows (row ∷ []) place early) ∙ at))
+      | inr late ↦
+          let last = get-last rows row found place at late in
+          let moved : Turns ends (length rows + 1) row (tree (length rows)) =
+          subst (λ (t : Tree). Turns ends (length rows + 1) row t) (sym (after-front ends.machine first rows (row ∷ []) (length rows) (omega arith))) turned in
+          let placed : Turns ends (place + 1) row (tree place) = subst (λ (n : ℕ). Turns ends (n + 1) row (tree n)) (sym last.0) moved in
+          subst (λ (r : BatchRow ends.machine.State). Turns ends (place + 1) r (tree place)) last.1 placed
+    ]
 
 -- one more batch that fits a message
 pub short-more : {Stage : Type 0} (rows : List (BatchRow Stage)) (row : BatchRow Stage) → AreShort rows → length row.bytes ≤ 33554368 → AreShort (rows ++ row ∷ [])
 short-more {Stage} rows row short fits place found at =
     elim (cases_lt place (length rows)) [
-      inl early ↦ short place found (sym (get-front rows (row ∷ []) place early) ∙ at)
-    | inr late ↦ subst (λ (r : BatchRow Stage). length r.bytes ≤ 33554368) (get-last rows row found place at late).1 fits ]
+      | inl early ↦ short place found (sym (get-front rows (row ∷ []) place early) ∙ at)
+      | inr late ↦ subst (λ (r : BatchRow Stage). length r.bytes ≤ 33554368) (get-last rows row found place at late).1 fits
+    ]
 
 -- a batch that was made fits a message
 pub row-short : {Stage : Type 0} (rows : List (BatchRow Stage)) (number : ℕ) (row : BatchRow Stage) → AreShort rows → batch_row rows number ≡ Some row → length row.bytes ≤ 33554368

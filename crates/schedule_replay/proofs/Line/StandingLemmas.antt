@@ -111,7 +111,7 @@ module _ {Stage Screen Tree : Type 0} (ends : Ends Tree) (first : Tree) (stands 
     server = subst (λ s. StandsServer ends.machine stands ends.stage s state.circuit) (sym server) stood.server;
     browser = refl;
     messages = subst (λ ms. AllZip SpellsMessage ms (state.messages ++ map upward ups)) (sym messages)
-      (zip-append SpellsMessage before.messages.items state.messages (map bytes.Up pieces) (map upward ups) stood.messages (zip-up pieces ups spelled));
+        (zip-append SpellsMessage before.messages.items state.messages (map bytes.Up pieces) (map upward ups) stood.messages (zip-up pieces ups spelled));
     delivered = place;
     steps = steps ∙ ap (λ (n : ℕ). n + 1) stood.steps;
     in_step = in-step-up ends first state (browser_of tree after.client) ups delivered stood.in_step shows;
@@ -139,12 +139,12 @@ module _ {Stage Screen Tree : Type 0} (ends : Ends Tree) (first : Tree) (stands 
       let browser : BrowserState Tree = browser_of tree after.client in
       let moved : Connects state.browser connection ups browser = subst (λ (b : BrowserState Tree). Connects b connection ups browser) stood.browser connects in
       let shows = shows-same ends first (Rows state) state.browser browser (shows-now before state stood)
-        (ap (λ (b : BrowserState Tree). b.tree) moved.1) (ap (λ (b : BrowserState Tree). b.status.applied) moved.1) in
+      (ap (λ (b : BrowserState Tree). b.tree) moved.1) (ap (λ (b : BrowserState Tree). b.status.applied) moved.1) in
       let next : State = with_up state browser ups state.delivered in
       let now = stands-up before after state ups pieces state.delivered stood shows spelled server messages (place ∙ stood.delivered) steps in
       let line : text ≡ line_text next.steps (codes "open 0") (numbered (codes "connection") connection) (sent_between state next) None =
       is ∙ ap (λ (sent : List ℕ). line_text after.steps (codes "open 0") (numbered (codes "connection") connection) sent None) (sent-same before after state next stood now)
-        ∙ ap (λ (n : ℕ). line_text n (codes "open 0") (numbered (codes "connection") connection) (sent_between state next) None) now.steps in
+      ∙ ap (λ (n : ℕ). line_text n (codes "open 0") (numbered (codes "connection") connection) (sent_between state next) None) now.steps in
       (next, now, (ups, browser, moved, refl, line))
 
   pub user-stands : (before after : Line Stage Screen Tree) (state : State) (path event : List ℕ) (asked : Asked) (ups : List Up) (pieces : List (List ℕ)) (text : List ℕ) → StandsLine ends first stands tree before state
@@ -162,7 +162,7 @@ module _ {Stage Screen Tree : Type 0} (ends : Ends Tree) (first : Tree) (stands 
       let now = stands-up before after state ups pieces state.delivered stood shows spelled server messages (place ∙ stood.delivered) steps in
       let line : text ≡ line_text next.steps (user_text path event) (asked_text asked) (sent_between state next) None =
       is ∙ ap (λ (sent : List ℕ). line_text after.steps (user_text path event) (asked_text asked) sent None) (sent-same before after state next stood now)
-        ∙ ap (λ (n : ℕ). line_text n (user_text path event) (asked_text asked) (sent_between state next) None) now.steps in
+      ∙ ap (λ (n : ℕ). line_text n (user_text path event) (asked_text asked) (sent_between state next) None) now.steps in
       (next, now, (asked, ups, browser, moved, refl, line))
 
   -- the message that is next is delivered to the browser
@@ -171,7 +171,7 @@ module _ {Stage Screen Tree : Type 0} (ends : Ends Tree) (first : Tree) (stands 
       → ReceivesBytes ends.turns connection spelling (browser_of tree before.client) got pieces (browser_of tree after.client)
       → after.server ≡ before.server → after.messages.items ≡ before.messages.items ++ map bytes.Up pieces → after.delivered ≡ before.delivered + 1 → after.steps ≡ before.steps + 1
       → text ≡ line_text after.steps (numbered (codes "deliver") after.delivered) (answer_text got) (numbers_between (length before.messages.items) (length after.messages.items))
-        (shown_after got (ends.page (browser_of tree after.client).tree))
+      (shown_after got (ends.page (browser_of tree after.client).tree))
       → (next : State) × StandsLine ends first stands tree after next × DeliverDown ends message state text next
   down-stands one_tree one_count before after state message spelling got pieces text stood found spells receives server messages place steps is =
       let browser : BrowserState Tree = browser_of tree after.client in
@@ -188,8 +188,8 @@ module _ {Stage Screen Tree : Type 0} (ends : Ends Tree) (first : Tree) (stands 
       let shown : Option (List Node) = shown_after got (ends.page browser.tree) in
       let line : text ≡ line_text next.steps (numbered (codes "deliver") next.delivered) (answer_text got) (sent_between state next) shown =
       is ∙ ap (λ (s : List ℕ). line_text after.steps (numbered (codes "deliver") after.delivered) (answer_text got) s shown) (sent-same before after state next stood now)
-        ∙ ap (λ (n : ℕ). line_text n (numbered (codes "deliver") after.delivered) (answer_text got) (sent_between state next) shown) now.steps
-        ∙ ap (λ (n : ℕ). line_text next.steps (numbered (codes "deliver") n) (answer_text got) (sent_between state next) shown) delivered in
+      ∙ ap (λ (n : ℕ). line_text n (numbered (codes "deliver") after.delivered) (answer_text got) (sent_between state next) shown) now.steps
+      ∙ ap (λ (n : ℕ). line_text next.steps (numbered (codes "deliver") n) (answer_text got) (sent_between state next) shown) delivered in
       (next, now, (got, ups, browser, answer_text got, shown, moved, refl, shows-answer ends.machine ends.page state.circuit got browser.tree sees.1, line))
 
   -- the message that is next is delivered to the server
@@ -207,15 +207,15 @@ module _ {Stage Screen Tree : Type 0} (ends : Ends Tree) (first : Tree) (stands 
         server = server;
         browser = ap (λ c. browser_of tree c) client ∙ stood.browser;
         messages = subst (λ ms. AllZip SpellsMessage ms (state.messages ++ map downward replies)) (sym messages)
-          (zip-append SpellsMessage before.messages.items state.messages (map bytes.Down pieces) (map downward replies) stood.messages (zip-down pieces replies spelled));
+            (zip-append SpellsMessage before.messages.items state.messages (map bytes.Down pieces) (map downward replies) stood.messages (zip-down pieces replies spelled));
         delivered = delivered;
         steps = steps ∙ ap (λ (n : ℕ). n + 1) stood.steps;
         in_step = in-step-down ends first lawful begins state message replies circuit (state.delivered + 1) stood.in_step serves;
       } in
       let line : text ≡ line_text next.steps (numbered (codes "deliver") next.delivered) (exchange_text message replies) (sent_between state next) None =
       is ∙ ap (λ (s : List ℕ). line_text after.steps (numbered (codes "deliver") after.delivered) (exchange_text message replies) s None) (sent-same before after state next stood now)
-        ∙ ap (λ (n : ℕ). line_text n (numbered (codes "deliver") after.delivered) (exchange_text message replies) (sent_between state next) None) now.steps
-        ∙ ap (λ (n : ℕ). line_text next.steps (numbered (codes "deliver") n) (exchange_text message replies) (sent_between state next) None) delivered in
+      ∙ ap (λ (n : ℕ). line_text n (numbered (codes "deliver") after.delivered) (exchange_text message replies) (sent_between state next) None) now.steps
+      ∙ ap (λ (n : ℕ). line_text next.steps (numbered (codes "deliver") n) (exchange_text message replies) (sent_between state next) None) delivered in
       (next, now, (replies, circuit, serves, refl, line))
 
 -- the bytes that are next spell the message that is next

@@ -71,7 +71,7 @@ module _ {Stage Screen Tree : Type 0} (machine : Machine Tree) (stands : Stage �
       (subst (λ (n : ℕ). Lines before after old (new ++ text ∷ []) (Delivered n)) next
       (lead-more machine stands first turns page tree before middle after old new text (Delivered turn) (Delivered (suc turn)) (λ ends state next. Delivers ends (slice_get state.messages state.delivered) state text next) leads step
       (λ ends state mid later more done does.
-        many-more ends turn state mid later more text done (fresh-if ends (slice_get mid.messages mid.delivered) mid later text refl does) does)))
+      many-more ends turn state mid later more text done (fresh-if ends (slice_get mid.messages mid.delivered) mid later text refl does) does)))
 
   pub flow-all : (before after : Code) (old new : List (List ℕ)) (count turn : ℕ) → turn ≡ count → Lines before after old new (Delivered turn)
       → Lines before after old new (λ ends state more next. Flows ends count state more next)
@@ -84,10 +84,10 @@ module _ {Stage Screen Tree : Type 0} (machine : Machine Tree) (stands : Stage �
   flow-dry before after old new count turn few dry leads =
       lead-weaker machine stands first turns page tree before after old new (Delivered turn) (λ ends state more next. Flows ends count state more next) leads
       (λ stage state next more stood done.
-        let long : length after.messages.items ≡ length next.messages = zip-length SpellsMessage after.messages.items next.messages stood.messages in
-        let place : after.delivered ≡ next.delivered = stood.delivered in
-        let none : length next.messages ≤ next.delivered = omega (arith, long, place, dry) in
-        many-flows (ends_of machine stage before.window turns page) turn count state next more done few (inr (le-ltb _ _ none)))
+      let long : length after.messages.items ≡ length next.messages = zip-length SpellsMessage after.messages.items next.messages stood.messages in
+      let place : after.delivered ≡ next.delivered = stood.delivered in
+      let none : length next.messages ≤ next.delivered = omega (arith, long, place, dry) in
+      many-flows (ends_of machine stage before.window turns page) turn count state next more done few (inr (le-ltb _ _ none)))
 
   pub flow-few : (before after : Code) (old new : List (List ℕ)) (count turn limit : ℕ) → IsRunning machine stands first turns page tree before → Lines before after old new (Delivered turn)
       → turn < count → before.steps + count < limit → after.steps < limit
@@ -149,10 +149,13 @@ module _ {Stage Screen Tree : Type 0} (machine : Machine Tree) (stands : Stage �
       → Transcript (ends_of machine stage window turns page) first steps lines
   transcript-whole before after old new lines done steps window stage begins same stood empty leads last all =
       let From : ℕ → Type 0 = λ w. (state : LineState machine.State Tree) → StandsLine (ends_of machine stage w turns page) first stands tree before state
-        → (next : LineState machine.State Tree) × (more : List (List ℕ)) × StandsLine (ends_of machine stage w turns page) first stands tree after next × (after.window ≡ w) × (new ≡ old ++ more)
-        × Runs (ends_of machine stage w turns page) steps state more next in
+      → (next : LineState machine.State Tree) × (more : List (List ℕ)) × StandsLine (ends_of machine stage w turns page) first stands tree after next × (after.window ≡ w) × (new ≡ old ++ more)
+      × Runs (ends_of machine stage w turns page) steps state more next in
       let made = (subst From same (leads stage begins)) (first_line first) stood in
       let more : new ≡ made.1 = made.4 ∙ ap (λ (ls : List (List ℕ)). ls ++ made.1) empty in
-      let now : after.steps ≡ made.0.steps = made.2.steps in
-      (made.1, made.0, made.5,
-        all ∙ ap (λ (ls : List (List ℕ)). ls ++ done ∷ []) more ∙ ap (λ (d : List ℕ). made.1 ++ d ∷ []) (last ∙ ap (numbered (codes "done")) now))
+      let now : after.steps ≡ made.0.steps = made.2.steps in (
+        made.1,
+        made.0,
+        made.5,
+        all ∙ ap (λ (ls : List (List ℕ)). ls ++ done ∷ []) more ∙ ap (λ (d : List ℕ). made.1 ++ d ∷ []) (last ∙ ap (numbered (codes "done")) now),
+      )

@@ -7,7 +7,10 @@ ghost use Rattle.schedule_replay.specs.Texts.{answer_text, asked_text, escaped, 
 
 use super::server::CONNECTION;
 use crate::UserStep;
-use crate::texts::{push_answer, push_asked, push_escaped, push_number, push_numbered, push_path, push_replies, push_up};
+use crate::texts::{
+    push_answer, push_asked, push_escaped, push_number, push_numbered, push_path, push_replies,
+    push_up,
+};
 use hub_messages::{Asked, Down, Got, Up};
 use std::alloc::Global;
 use text_core::{Oom, Txt};
@@ -33,12 +36,7 @@ fn push_user(alloc: Global, line: &mut Txt, step: &UserStep) -> Result<(), Oom>
 }
 
 /// A message to the server, and its replies.
-fn push_exchange(
-    alloc: Global,
-    line: &mut Txt,
-    message: &Up,
-    replies: &[Down],
-) -> Result<(), Oom>
+fn push_exchange(alloc: Global, line: &mut Txt, message: &Up, replies: &[Down]) -> Result<(), Oom>
     ensures { OnOk result (line.new ≡ line.old ++ exchange_text message.now replies.now) }
 {
     push_up(alloc, line, message)?;
@@ -149,7 +147,14 @@ pub fn answer_line(alloc: Global, step: u64, number: u64, got: Got, sent: Sent) 
 }
 
 /// The same, with the page that the browser shows then.
-pub fn page_line(alloc: Global, step: u64, number: u64, got: Got, sent: Sent, page: &Txt) -> Result<Txt, Oom>
+pub fn page_line(
+    alloc: Global,
+    step: u64,
+    number: u64,
+    got: Got,
+    sent: Sent,
+    page: &Txt,
+) -> Result<Txt, Oom>
     requires { sent.first ≤ sent.last }
     ensures { IfOk result (λ line. line ≡ line_text step (numbered (codes "deliver") number) (answer_text got) (numbers_between sent.first sent.last) None ++ (codes "; page " ++ escaped page.now)) }
 {

@@ -16,4 +16,4 @@ loop-reply-preserved c =
     let there : slice_get c.args.replies.now c.loop-reply.reply-index ≡ Some c.reply-item.result = slice_get_read c.args.replies.now (length c.args.replies.now) c.loop-reply.reply-index c.reply-item.result refl (search rules) (search rules) in
     let pushed : c.push.new.self.items ≡ c.loop-reply.messages.items ++ bytes.Down c.in_ok-bytes.bytes.items ∷ [] = search rules in
     take-more c.args.messages.now.items c.loop-reply.messages.items c.push.new.self.items c.args.replies.now c.loop-reply.reply-index c.reply-item.result c.in_ok-bytes.bytes.items
-      there c.loop-reply.invariant c.in_ok-bytes.ensures pushed
+    there c.loop-reply.invariant c.in_ok-bytes.ensures pushed
