@@ -1,4 +1,4 @@
 pub mod EditLemmas
 pub mod WordLemmas
-pub pub mod ReplyLemmas
+pub mod ReplyLemmas
 pub mod EndingLemmas
