@@ -5,6 +5,7 @@ use crate::support::{files, texts};
 use blazor_top::run;
 use outside::{MemSink, Sink, Wrote};
 use std::test::Fail;
+use text_core::Txt;
 
 /// Takes at most so many bytes of each piece.
 #[derive(Debug, Drop)]
@@ -88,6 +89,26 @@ fn tells_faults(rt: HostRuntime) -> Result<(), Fail> {
             written.as_bytes(),
             "{name}, calls {reading} and {writing}"
         );
+    }
+    Ok(())
+}
+
+#[test]
+fn tells_the_file_that_failed(rt: HostRuntime) -> Result<(), Fail> {
+    let alloc = rt.alloc();
+    for (failing, status, written) in [
+        (1, 5, "unread s.json\n"),
+        (2, 5, "unread A.razor\n"),
+        (3, 5, "unread A.razor\n"),
+        (4, 1, "refused NotYet A.razor 1:1\n"),
+    ] {
+        let mut files = files(alloc, "A.razor", "x", [failing].to_vec(alloc)?)?;
+        files.put(Txt::from_str(alloc, "s.json")?, b"[]".to_vec(alloc)?)?;
+        let mut out = MemSink::new(alloc, Vec::new(alloc));
+        let words = texts(alloc, &["replay", "s.json", "A.razor", "A.razor"])?;
+        let finished = run(alloc, &words, &mut files, &mut out);
+        assert_eq!(rt; finished.status, status, "call {failing}");
+        assert_eq!(rt; out.bytes(), written.as_bytes(), "call {failing}");
     }
     Ok(())
 }

@@ -35,7 +35,10 @@ fn renders_pages(rt: HostRuntime) -> Result<(), Fail> {
             "<b><i>x</i></b>\n",
         ),
         ("@code{void A(){n=n+2*(n-m);m=7;}int m=0;int n=1;}", "\n"),
-        ("@code { int n = 1; void A ( ) { n = 2147483647 - n ; n -- ; } }", "\n"),
+        (
+            "@code { int n = 1; void A ( ) { n = 2147483647 - n ; n -- ; } }",
+            "\n",
+        ),
         ("@code{void Dispose(){}}", "\n"),
     ] {
         let ran = page(alloc, text)?;

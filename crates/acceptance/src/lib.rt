@@ -10,6 +10,10 @@ mod forms;
 #[cfg(test)]
 mod limits;
 #[cfg(test)]
+mod refusals;
+#[cfg(test)]
+mod replays;
+#[cfg(test)]
 mod support;
 #[cfg(test)]
 mod words;

@@ -6,6 +6,7 @@ use text_core::Oom;
 
 /// What stands round the value of an assignment. At the value two braces are open, and `=` counts in the inner one.
 const BEGIN: &str = "@code{int n=1;void A(){n=";
+
 const END: &str = ";}}";
 
 fn repeat(text: &str, count: usize, out: &mut String) -> Result<(), Oom> {
@@ -51,7 +52,15 @@ fn keeps_limits(rt: HostRuntime) -> Result<(), Fail> {
         ([(BEGIN, 1), ("1+", 97), ("1", 1), (END, 1)].as_slice(), 0),
         ([(BEGIN, 1), ("1-", 98), ("1", 1), (END, 1)].as_slice(), 1),
         (
-            [(BEGIN, 1), ("1*", 97), ("1;n=", 1), ("1*", 97), ("1", 1), (END, 1)].as_slice(),
+            [
+                (BEGIN, 1),
+                ("1*", 97),
+                ("1;n=", 1),
+                ("1*", 97),
+                ("1", 1),
+                (END, 1),
+            ]
+            .as_slice(),
             0,
         ),
         (
@@ -62,7 +71,10 @@ fn keeps_limits(rt: HostRuntime) -> Result<(), Fail> {
             [(BEGIN, 1), ("1+(", 48), ("1", 1), (")", 48), (END, 1)].as_slice(),
             0,
         ),
-        ([(BEGIN, 1), ("1;n=", 1_000), ("1", 1), (END, 1)].as_slice(), 0),
+        (
+            [(BEGIN, 1), ("1;n=", 1_000), ("1", 1), (END, 1)].as_slice(),
+            0,
+        ),
     ] {
         let ran = page(alloc, made_of(alloc, parts)?.as_str())?;
         assert_eq!(rt; ran.status, status, "at {parts:?}");

@@ -1,4 +1,4 @@
-// A run over one file in memory.
+// Runs over files in memory.
 use blazor_top::run;
 use outside::{MemFiles, MemSink};
 use std::alloc::Global;
@@ -27,13 +27,27 @@ pub fn files(alloc: Global, name: &str, text: &str, failing: Vec<u64>) -> Result
     Ok(files)
 }
 
+/// Files of these names and texts.
+pub fn all_files(alloc: Global, table: &[(&str, &str)]) -> Result<MemFiles, Oom> {
+    let mut files = MemFiles::new(alloc, Vec::new(alloc));
+    for (name, text) in table {
+        files.put(Txt::from_str(alloc, name)?, text.as_bytes().to_vec(alloc)?)?;
+    }
+    Ok(files)
+}
+
+/// A run of these words over these files.
+pub fn run_over(alloc: Global, words: &[Txt], files: &mut MemFiles) -> Result<Ran, Oom> {
+    let mut out = MemSink::new(alloc, Vec::new(alloc));
+    let status = run(alloc, words, files, &mut out).status;
+    let bytes = out.bytes().to_vec(alloc)?;
+    Ok(Ran { status, bytes })
+}
+
 /// A run of these words over one file.
 pub fn outcome(alloc: Global, words: &[&str], name: &str, text: &str) -> Result<Ran, Oom> {
     let mut files = files(alloc, name, text, Vec::new(alloc))?;
-    let mut out = MemSink::new(alloc, Vec::new(alloc));
-    let status = run(alloc, &texts(alloc, words)?, &mut files, &mut out).status;
-    let bytes = out.bytes().to_vec(alloc)?;
-    Ok(Ran { status, bytes })
+    run_over(alloc, &texts(alloc, words)?, &mut files)
 }
 
 /// The page of a file, or the line in its place.

@@ -1,4 +1,7 @@
 pub mod EditLemmas
-pub mod WordLemmas
+pub mod CommandLemmas
+pub mod PlaceLemmas
+pub mod StopLemmas
 pub mod ReplyLemmas
+pub mod WritingLemmas
 pub mod EndingLemmas

@@ -1,41 +1,77 @@
--- The reply to what the reading of a file answered is the reply to the words.
-use Rattle.std.proofs.Common.{◌≡◌, ℕ, List, Some, None, Result, Ok, Err, refl, sym, subst}
-use Rattle.std.specs.Prelude.{IfOk}
-use Rattle.outside.specs.declared.files.FileRead.{FileRead}
-use Rattle.outside.specs.declared.files.FileRead.TheVariants as read
-use Rattle.outside.specs.Files.{Answers, OnFailed}
-use Rattle.blazor_top.specs.declared.reply.Reply.{Reply}
+-- The answers of commands are the replies to the words.
+use Rattle.std.proofs.Common.{◌≡◌, ℕ, List, [], ◌∷◌, Some, refl, sym, subst, inl, inr}
+use Rattle.std.specs.Prelude.{map}
+use Rattle.schedule_replay.specs.Every.{Every}
+use Rattle.first_click.specs.declared.component.Component.{Component}
+use Rattle.blazor_top.specs.declared.command.Command.{Command}
+use Rattle.blazor_top.specs.declared.command.Command.TheVariants.{Render, Replay}
 use Rattle.blazor_top.specs.declared.status.Status.{Status}
 use Rattle.blazor_top.specs.declared.status.Status.TheVariants as status
-use Rattle.blazor_top.specs.Reply.{Contents, Holds, BytesReply, spelled, not_spelled, RepliesTo, Replies, usage_line}
-use Rattle.blazor_top.specs.Words.{rendered_file}
+use Rattle.blazor_top.specs.Command.{command_of}
+use Rattle.blazor_top.specs.Program.{HasComponent, HasNoComponent, first, second}
+use Rattle.blazor_top.specs.Reading.{Contents, Named, Holds, IsThere, FirstSuch, here, behind, files_of, schedule_file, component_file}
+use Rattle.blazor_top.specs.Reply.{refused_line, IsOutput, Replies}
+use Rattle.blazor_top.specs.Stopping.{CommandOutput, CommandRefused, at_file, at_program, at_schedule, NoComponent, NoSchedule, wrong, many, PlaysNot, at_first, at_second, at_plan, StopsAt}
 
-at_status : (words : List (List ℕ)) (held : Contents) (rose : Type 0) (want got : Status) (line : List ℕ) → got ≡ want → Replies words held rose want line → Replies words held rose got line
-at_status words held rose want got line same reply = subst (λ (s : Status). Replies words held rose s line) (sym same) reply
+not_empty : (other : List ℕ) (others : List (List ℕ)) → other ∷ others ≡ [] → ⊥
+not_empty other others e = cc
 
-module _ (words : List (List ℕ)) (rose : Type 0) (name : List ℕ) (asked : rendered_file words ≡ Some name) where
-  of_bytes : (held : Contents) (bytes : List ℕ) (got : Status) (line : List ℕ) → Holds held name bytes → BytesReply name bytes got line → Replies words held rose got line
-  of_bytes held bytes _ _ there (spelled component s) =
-      record { name = name; bytes = bytes; component = component; asked = asked; there = there; spelled = s; is = refl }
-  of_bytes held bytes _ _ there (not_spelled none) = record { name = name; bytes = bytes; asked = asked; there = there; not_spelled = none; is = refl }
+module _ (words : List (List ℕ)) (held : Contents) where
+  pub is_output : (command : Command) (lines : List (List ℕ)) → command_of words ≡ Some command → CommandOutput held command lines → IsOutput words held lines
+  is_output (Render file) lines asked out = inl (record { file = file; component = out.0; asked = asked; spelled = out.1; is = out.2 })
+  is_output (Replay name root []) lines asked out =
+      inr (record { name = name; root = root; schedule = out.0; component = out.1; asked = asked; planned = out.3; spelled = out.4; transcript = out.5 })
+  is_output (Replay name root (other ∷ others)) lines asked out = absurd (not_empty other others out.2)
 
-  pub replies : (held : Contents) (answer : FileRead) (got : Status) (line : List ℕ) → Answers held name 1048576 answer → OnFailed answer rose → RepliesTo name answer got line
-      → Replies words held rose got line
-  replies (Some file) (read.Bytes v) got line a f r = of_bytes (Some file) v.items got line a r
-  replies None (read.Bytes v) got line a f r = of_bytes None v.items got line a r
-  replies (Some file) read.Missing got line a f r = at_status words (Some file) rose status.Missing got line r.0 (record { name = name; asked = asked; lacks = a; is = r.1 })
-  replies None read.Missing got line a f r = at_status words None rose status.Missing got line r.0 (record { name = name; asked = asked; lacks = a; is = r.1 })
-  replies (Some file) read.TooLarge got line a f r = at_status words (Some file) rose status.TooLarge got line r.0 (record { name = name; asked = asked; exceeds = a; is = r.1 })
-  replies None read.TooLarge got line a f r = at_status words None rose status.TooLarge got line r.0 (record { name = name; asked = asked; exceeds = a; is = r.1 })
-  replies held read.Failed got line a f r = at_status words held rose status.Unread got line r.0 (record { name = name; asked = asked; fault = f; is = r.1 })
-  replies held read.Oom got line a f r = absurd r
+  -- there is no such file
+  never_first : (files : List Named) (file : Named) → FirstSuch (IsThere held) (λ asked. ⊥) files file → ⊥
+  never_first _ _ (here file files such) = such
+  never_first _ _ (behind other file files there more) = never_first files file more
 
-  pub if_replies : {E : Type 0} (held : Contents) (answer : FileRead) (r : Result Reply E) → Answers held name 1048576 answer → OnFailed answer rose
-      → IfOk r (λ reply. RepliesTo name answer reply.status reply.line) → IfOk r (λ reply. Replies words held rose reply.status reply.line)
-  if_replies held answer (Err e) a f r = tt
-  if_replies held answer (Ok reply) a f r = replies held answer reply.status reply.line a f r
+  of_file : (rose : Type 0) (command : Command) (file : Named) (got : Status) (line : List ℕ) → command_of words ≡ Some command
+      → FirstSuch (IsThere held) (λ asked. StopsAt held rose got asked line) (files_of command) file → Replies words held rose got (line ∷ [])
+  of_file rose command file status.Missing line asked at = record { command = command; file = file; line = line; asked = asked; first = at; is = refl }
+  of_file rose command file status.Unread line asked at = record { command = command; file = file; line = line; asked = asked; first = at; is = refl }
+  of_file rose command file status.TooLarge line asked at = inl (record { command = command; file = file; line = line; asked = asked; first = at; is = refl })
+  of_file rose command file status.Done line asked at = absurd (never_first (files_of command) file at)
+  of_file rose command file status.Refused line asked at = absurd (never_first (files_of command) file at)
+  of_file rose command file status.Usage line asked at = absurd (never_first (files_of command) file at)
+  of_file rose command file status.Unscheduled line asked at = absurd (never_first (files_of command) file at)
+  of_file rose command file status.Unwritten line asked at = absurd (never_first (files_of command) file at)
+  of_file rose command file status.OutOfMemory line asked at = absurd (never_first (files_of command) file at)
 
-pub if_usage : {E : Type 0} (words : List (List ℕ)) (held : Contents) (rose : Type 0) (r : Result Reply E) → rendered_file words ≡ None
-    → IfOk r (λ reply. reply.status ≡ status.Usage) → IfOk r (λ reply. reply.line ≡ usage_line) → IfOk r (λ reply. Replies words held rose reply.status reply.line)
-if_usage words held rose (Err e) none s l = tt
-if_usage words held rose (Ok reply) none s l = at_status words held rose status.Usage reply.status reply.line s (record { not_asked = none; is = l })
+  of_schedule : (rose : Type 0) (name root bytes : List ℕ) (component : Component) (got : Status) (line : List ℕ) → command_of words ≡ Some (Replay name root [])
+      → HasComponent held root component → Holds held (schedule_file name) bytes → NoSchedule name bytes got line → Replies words held rose got (line ∷ [])
+  of_schedule rose name root bytes component _ _ asked spelled there (wrong line why) =
+      record { name = name; root = root; component = component; bytes = bytes; line = line; asked = asked; spelled = spelled; there = there; wrong = why; is = refl }
+  of_schedule rose name root bytes component _ _ asked spelled there (many why) =
+      inr (record { name = name; root = root; component = component; asked = asked; spelled = spelled; many = record { bytes = bytes; there = there; is = why }; is = refl })
+
+  pub refused : (rose : Type 0) (command : Command) (got : Status) (line : List ℕ) → command_of words ≡ Some command → CommandRefused held rose command got line
+      → Replies words held rose got (line ∷ [])
+  refused rose _ _ _ asked (at_file command got line stops) = of_file rose command stops.0 got line asked stops.1
+  refused rose _ _ _ asked (at_program command file there at) = record { command = command; file = file; asked = asked; there = there; refused = at; is = refl }
+  refused rose _ _ _ asked (at_schedule name root bytes component got line spelled there why) =
+      of_schedule rose name root bytes component got line asked spelled there why
+
+-- a rendering is refused at its file
+pub render_refused : (held : Contents) (rose : Type 0) (file bytes : List ℕ) → Holds held (component_file file) bytes
+    → (got : Status) (line : List ℕ) → NoComponent file bytes got line → CommandRefused held rose (Render file) got line
+render_refused held rose file bytes there got line none =
+    let no : HasNoComponent held file = record { bytes = bytes; there = there; not_spelled = none.not_spelled } in
+    let at : CommandRefused held rose (Render file) status.Refused (refused_line file) = at_program (Render file) file ((bytes, there), tt) (first file [] no) in
+    subst (λ (s : Status). CommandRefused held rose (Render file) s line) (sym none.refused)
+    (subst (CommandRefused held rose (Render file) status.Refused) (sym none.is) at)
+
+-- a replay is refused for what its files spell
+pub replay_refused : (held : Contents) (rose : Type 0) (name root planned spelled : List ℕ) (others : List (List ℕ)) → Holds held (schedule_file name) planned
+    → Holds held (component_file root) spelled → Every (IsThere held) (map component_file others)
+    → (got : Status) (line : List ℕ) → PlaysNot name root planned spelled others got line → CommandRefused held rose (Replay name root others) got line
+replay_refused held rose name root planned spelled _ plan there more _ _ (at_first others none) =
+    at_program (Replay name root others) root ((planned, plan), ((spelled, there), more))
+    (first root others (record { bytes = spelled; there = there; not_spelled = none }))
+replay_refused held rose name root planned spelled _ plan there more _ _ (at_second other others component spells) =
+    at_program (Replay name root (other ∷ others)) other ((planned, plan), ((spelled, there), more))
+    (second root other others component (record { bytes = spelled; there = there; spelled = spells }))
+replay_refused held rose name root planned spelled _ plan there more _ _ (at_plan component got line spells why) =
+    at_schedule name root planned component got line (record { bytes = spelled; there = there; spelled = spells }) plan why

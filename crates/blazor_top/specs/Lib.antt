@@ -1,5 +1,9 @@
 pub mod Edits
-pub mod Words
-pub mod Status
+pub mod Command
+pub mod Reading
+pub mod Program
+pub mod Transcript
 pub mod Reply
+pub mod Stopping
+pub mod Status
 pub mod Run

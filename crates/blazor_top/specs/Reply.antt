@@ -1,49 +1,33 @@
--- What the program is to write.
-use Rattle.std.specs.Prelude.{◌≡◌, ℕ, ◌<◌, ◌≤◌, List, [], ◌∷◌, ◌++◌, length, codes, encode_utf8_all, Option, Some, None, ⊤}
-use Rattle.outside.specs.declared.files.FileRead.{FileRead}
-use Rattle.outside.specs.declared.files.FileRead.TheVariants as read
+-- What the program is to write: lines, each of which gets its end.
+use Rattle.std.specs.Prelude.{◌≡◌, ℕ, List, [], ◌∷◌, ◌++◌, codes, Some, None, ◌⊎◌, Ok, Err}
+use Rattle.std.specs.Fmt.{decimal}
 use Rattle.page_core.specs.Print.{nodes_text}
 use Rattle.first_click.specs.declared.component.Component.{Component}
+use Rattle.first_click.specs.Rendering.{fresh}
+use Rattle.schedule_replay.specs.Every.{Every}
+use Rattle.schedule_replay.specs.Schedule.{schedule_of}
+use Rattle.schedule_replay.specs.declared.schedule.Schedule.{Schedule}
+use Rattle.schedule_replay.specs.declared.schedule.ScheduleFault.TheVariants as fault
+use Rattle.blazor_top.specs.declared.command.Command.{Command}
+use Rattle.blazor_top.specs.declared.command.Command.TheVariants.{Render, Replay}
 use Rattle.blazor_top.specs.declared.status.Status.{Status}
 use Rattle.blazor_top.specs.declared.status.Status.TheVariants as status
-use Rattle.first_click.specs.Component.{Spells}
-use Rattle.first_click.specs.Rendering.{fresh}
-use Rattle.blazor_top.specs.Words.{rendered_file}
+use Rattle.blazor_top.specs.Command.{command_of}
+use Rattle.blazor_top.specs.Program.{HasComponent, HasSchedule, RefusedAt, program_of}
+use Rattle.blazor_top.specs.Reading.{Contents, Named, Holds, IsThere, Lacks, Exceeds, FirstSuch, files_of, schedule_file}
+use Rattle.blazor_top.specs.Transcript.{IsTranscriptOf}
 
--- the bytes at each name, where files tell them
-abbrev pub Contents : Type 0
-Contents = Option (List ℕ → Option (List ℕ))
-
--- the file of the name has these bytes, at most 1,048,576
-abbrev pub Holds : Contents → List ℕ → List ℕ → Type 0
-Holds (Some file) name bytes = (file name ≡ Some bytes) × (length bytes ≤ 1048576)
-Holds None name bytes = length bytes ≤ 1048576
-
--- there is no file of the name
-abbrev pub Lacks : Contents → List ℕ → Type 0
-Lacks (Some file) name = file name ≡ None
-Lacks None name = ⊤
-
--- the file of the name has more bytes than that
-abbrev pub Exceeds : Contents → List ℕ → Type 0
-Exceeds (Some file) name = (bytes : List ℕ) × (file name ≡ Some bytes) × (1048576 < length bytes)
-Exceeds None name = ⊤
-
--- a file of this name and these bytes spells the component
-abbrev pub FileSpells : List ℕ → List ℕ → Component → Type 0
-FileSpells name bytes component = Spells (encode_utf8_all name) bytes component
-
--- the page of the component, rendered fresh and printed, and a line end
+-- the page of the component, rendered fresh and printed
 abbrev pub page_line : Component → List ℕ
-page_line component = nodes_text (fresh 1 component) ++ 10 ∷ []
+page_line component = nodes_text (fresh 1 component)
 
 -- the line for words that are no command
 abbrev pub usage_line : List ℕ
-usage_line = codes "usage: blazor COMMAND ARGUMENTS" ++ 10 ∷ []
+usage_line = codes "usage: blazor COMMAND ARGUMENTS"
 
 -- a line about a file, whose name stands between these words
 abbrev pub line_about : List ℕ → List ℕ → List ℕ → List ℕ
-line_about before name after = before ++ (name ++ (after ++ 10 ∷ []))
+line_about before name after = before ++ (name ++ after)
 
 -- the lines about a file of this name
 abbrev pub refused_line : List ℕ → List ℕ
@@ -58,72 +42,103 @@ unread_line name = line_about (codes "unread ") name []
 abbrev pub too_large_line : List ℕ → List ℕ
 too_large_line name = line_about (codes "too large ") name []
 
--- the file that the words name spells a component, and the line is its page
-pub record IsPage (words : List (List ℕ)) (held : Contents) (line : List ℕ) : Type 0 where
-  pub name : List ℕ
-  pub bytes : List ℕ
+-- the bytes spell no schedule, and the line says what is wrong with them first
+pub data Unscheduled (bytes : List ℕ) : List ℕ → Type 0 where
+  unread : schedule_of bytes ≡ Err fault.Unread → Unscheduled bytes (codes "schedule unread")
+  no_step : (number : ℕ) → schedule_of bytes ≡ Err (fault.Step number) → Unscheduled bytes (codes "schedule step " ++ decimal number)
+
+-- the words ask for the page of a file that spells a component, and this is its line
+pub record IsPage (words : List (List ℕ)) (held : Contents) (lines : List (List ℕ)) : Type 0 where
+  pub file : List ℕ
   pub component : Component
-  pub asked : rendered_file words ≡ Some name
-  pub there : Holds held name bytes
-  pub spelled : FileSpells name bytes component
-  pub is : line ≡ page_line component
+  pub asked : command_of words ≡ Some (Render file)
+  pub spelled : HasComponent held file component
+  pub is : lines ≡ page_line component ∷ []
 
--- the file that the words name spells no component
-pub record IsRefusal (words : List (List ℕ)) (held : Contents) (line : List ℕ) : Type 0 where
+-- the words ask for a replay, the files spell a schedule and one component, and the lines are the transcript
+pub record IsReplayed (words : List (List ℕ)) (held : Contents) (lines : List (List ℕ)) : Type 0 where
   pub name : List ℕ
+  pub root : List ℕ
+  pub schedule : Schedule
+  pub component : Component
+  pub asked : command_of words ≡ Some (Replay name root [])
+  pub planned : HasSchedule held name (Ok schedule)
+  pub spelled : HasComponent held root component
+  pub transcript : IsTranscriptOf component schedule lines
+
+-- what the words ask for
+abbrev pub IsOutput : List (List ℕ) → Contents → List (List ℕ) → Type 0
+IsOutput words held lines = IsPage words held lines ⊎ IsReplayed words held lines
+
+-- all files that the words name are there, and the program is refused at one of them
+pub record IsRefusal (words : List (List ℕ)) (held : Contents) (lines : List (List ℕ)) : Type 0 where
+  pub command : Command
+  pub file : List ℕ
+  pub asked : command_of words ≡ Some command
+  pub there : Every (IsThere held) (files_of command)
+  pub refused : RefusedAt held (program_of command) file
+  pub is : lines ≡ refused_line file ∷ []
+
+-- the words are no command
+pub record IsUsage (words : List (List ℕ)) (lines : List (List ℕ)) : Type 0 where
+  pub not_asked : command_of words ≡ None
+  pub is : lines ≡ usage_line ∷ []
+
+-- the words ask for a replay over one component, but the schedule's bytes spell none
+pub record IsUnscheduled (words : List (List ℕ)) (held : Contents) (lines : List (List ℕ)) : Type 0 where
+  pub name : List ℕ
+  pub root : List ℕ
+  pub component : Component
   pub bytes : List ℕ
-  pub asked : rendered_file words ≡ Some name
-  pub there : Holds held name bytes
-  pub not_spelled : (component : Component) → FileSpells name bytes component → ⊥
-  pub is : line ≡ refused_line name
+  pub line : List ℕ
+  pub asked : command_of words ≡ Some (Replay name root [])
+  pub spelled : HasComponent held root component
+  pub there : Holds held (schedule_file name) bytes
+  pub wrong : Unscheduled bytes line
+  pub is : lines ≡ line ∷ []
 
--- the words name no file to render
-pub record IsUsage (words : List (List ℕ)) (line : List ℕ) : Type 0 where
-  pub not_asked : rendered_file words ≡ None
-  pub is : line ≡ usage_line
+-- the first of the files that the words name, in their order, that is such, with the line about it: those before it are there
+pub record IsStopped (words : List (List ℕ)) (held : Contents) (Such : Named → List ℕ → Type 0) (lines : List (List ℕ)) : Type 0 where
+  pub command : Command
+  pub file : Named
+  pub line : List ℕ
+  pub asked : command_of words ≡ Some command
+  pub first : FirstSuch (IsThere held) (λ asked. Such asked line) (files_of command) file
+  pub is : lines ≡ line ∷ []
 
--- there is no file of the name that the words have
-pub record IsMissing (words : List (List ℕ)) (held : Contents) (line : List ℕ) : Type 0 where
+-- the first file that the words name and that can't be read is not there
+abbrev pub IsMissing : List (List ℕ) → Contents → List (List ℕ) → Type 0
+IsMissing words held lines = IsStopped words held (λ file line. Lacks held file × (line ≡ missing_line file.name)) lines
+
+-- it could not be read, and the faults of the files rose
+abbrev pub IsUnread : List (List ℕ) → Contents → Type 0 → List (List ℕ) → Type 0
+IsUnread words held rose lines = IsStopped words held (λ file line. rose × (line ≡ unread_line file.name)) lines
+
+-- it is above its limit
+abbrev pub IsLong : List (List ℕ) → Contents → List (List ℕ) → Type 0
+IsLong words held lines = IsStopped words held (λ file line. Exceeds held file × (line ≡ too_large_line file.name)) lines
+
+-- the words ask for a replay over one component, but the schedule has too many steps
+pub record HasManySteps (words : List (List ℕ)) (held : Contents) (lines : List (List ℕ)) : Type 0 where
   pub name : List ℕ
-  pub asked : rendered_file words ≡ Some name
-  pub lacks : Lacks held name
-  pub is : line ≡ missing_line name
+  pub root : List ℕ
+  pub component : Component
+  pub asked : command_of words ≡ Some (Replay name root [])
+  pub spelled : HasComponent held root component
+  pub many : HasSchedule held name (Err fault.TooMany)
+  pub is : lines ≡ too_large_line name ∷ []
 
--- the words name a file, and the faults of the files rose
-pub record IsUnread (words : List (List ℕ)) (rose : Type 0) (line : List ℕ) : Type 0 where
-  pub name : List ℕ
-  pub asked : rendered_file words ≡ Some name
-  pub fault : rose
-  pub is : line ≡ unread_line name
+abbrev pub IsTooLarge : List (List ℕ) → Contents → List (List ℕ) → Type 0
+IsTooLarge words held lines = IsLong words held lines ⊎ HasManySteps words held lines
 
--- the file that the words name is above the limit
-pub record IsTooLarge (words : List (List ℕ)) (held : Contents) (line : List ℕ) : Type 0 where
-  pub name : List ℕ
-  pub asked : rendered_file words ≡ Some name
-  pub exceeds : Exceeds held name
-  pub is : line ≡ too_large_line name
-
--- the line belongs to these words with this status; rose: the faults of the files rose
-abbrev pub Replies : List (List ℕ) → Contents → Type 0 → Status → List ℕ → Type 0
-Replies words held rose status.Done line = IsPage words held line
-Replies words held rose status.Refused line = IsRefusal words held line
-Replies words held rose status.Usage line = IsUsage words line
-Replies words held rose status.Missing line = IsMissing words held line
-Replies words held rose status.Unread line = IsUnread words rose line
-Replies words held rose status.TooLarge line = IsTooLarge words held line
-Replies words held rose status.Unwritten line = ⊥
-Replies words held rose status.OutOfMemory line = ⊥
-
--- the status and the line that belong to a file of this name and these bytes
-pub data BytesReply (name bytes : List ℕ) : Status → List ℕ → Type 0 where
-  spelled : (component : Component) → FileSpells name bytes component → BytesReply name bytes status.Done (page_line component)
-  not_spelled : ((component : Component) → FileSpells name bytes component → ⊥) →
-      BytesReply name bytes status.Refused (refused_line name)
-
--- the status and the line that belong to what the reading of the file of this name answered
-abbrev pub RepliesTo : List ℕ → FileRead → Status → List ℕ → Type 0
-RepliesTo name (read.Bytes v) got line = BytesReply name v.items got line
-RepliesTo name read.Missing got line = (got ≡ status.Missing) × (line ≡ missing_line name)
-RepliesTo name read.TooLarge got line = (got ≡ status.TooLarge) × (line ≡ too_large_line name)
-RepliesTo name read.Failed got line = (got ≡ status.Unread) × (line ≡ unread_line name)
-RepliesTo name read.Oom got line = ⊥
+-- the lines belong to these words with this status; rose: the faults of the files rose
+abbrev pub Replies : List (List ℕ) → Contents → Type 0 → Status → List (List ℕ) → Type 0
+Replies words held rose status.Done lines = IsOutput words held lines
+Replies words held rose status.Refused lines = IsRefusal words held lines
+Replies words held rose status.Usage lines = IsUsage words lines
+Replies words held rose status.Unscheduled lines = IsUnscheduled words held lines
+Replies words held rose status.Missing lines = IsMissing words held lines
+Replies words held rose status.Unread lines = IsUnread words held rose lines
+Replies words held rose status.TooLarge lines = IsTooLarge words held lines
+Replies words held rose status.Unwritten lines = ⊥
+Replies words held rose status.OutOfMemory lines = ⊥

@@ -1,13 +1,14 @@
 -- How the program ends.
 use Rattle.std.specs.Prelude.{ℕ}
 use Rattle.blazor_top.specs.declared.status.Status.{Status}
-use Rattle.blazor_top.specs.declared.status.Status.TheVariants.{Done, Refused, Usage, Missing, Unread, Unwritten, TooLarge, OutOfMemory}
+use Rattle.blazor_top.specs.declared.status.Status.TheVariants.{Done, Refused, Usage, Unscheduled, Missing, Unread, Unwritten, TooLarge, OutOfMemory}
 
 -- the number with which the process ends
 abbrev pub code_of : Status → ℕ
 code_of Done = 0
 code_of Refused = 1
 code_of Usage = 2
+code_of Unscheduled = 3
 code_of Missing = 4
 code_of Unread = 5
 code_of Unwritten = 6

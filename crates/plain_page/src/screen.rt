@@ -10,8 +10,8 @@ use crate::click::click;
 use crate::page_tree::PageTree;
 use crate::reading::nodes_at;
 use crate::turning::counts_between;
-use hub_messages::{At, Screen, ScreenFault};
-use page_core::{ApplyFault, BatchFault, Counts, Node, Page, at};
+use hub_messages::{At, PrintScreen, Screen, ScreenFault};
+use page_core::{ApplyFault, BatchFault, Counts, Node, Page, at, print};
 use sqlite_items::Items;
 use std::alloc::Global;
 use text_core::{Oom, Txt};
@@ -142,5 +142,11 @@ impl Screen for PlainScreen {
             None => At::NoNode,
             Some(node) => handler_on(node, event),
         }
+    }
+}
+
+impl PrintScreen for PlainScreen {
+    fn print(&self, alloc: Global) -> Result<Txt, Oom> {
+        print(alloc, self.page())
     }
 }

@@ -8,8 +8,8 @@ ghost use Rattle.first_click.specs.Weight.{weight};
 use crate::{PlainScreen, PlainStage};
 use cs_ast::{Code, StepOp, Variable};
 use first_click::{Component, Field, Item, Method};
-use hub_messages::{Acted, At, Bytes, Made, Outcome, Screen, ScreenFault, Stage};
-use page_core::{ApplyFault, BatchFault, Counts, print};
+use hub_messages::{Acted, At, Bytes, Made, Outcome, PrintScreen, Screen, ScreenFault, Stage};
+use page_core::{ApplyFault, BatchFault, Counts};
 use sqlite_items::{Boxed, Items};
 use std::alloc::Global;
 use std::process::Abort;
@@ -149,8 +149,8 @@ fn acts_on_its_handlers(rt: HostRuntime) -> Result<(), Fail> {
 }
 
 /// The page that the screen shows, as it prints.
-fn printed(alloc: Global, screen: &PlainScreen) -> Result<Txt, Oom> {
-    print(alloc, screen.page())
+fn printed<V: PrintScreen>(alloc: Global, screen: &V) -> Result<Txt, Oom> {
+    screen.print(alloc)
 }
 
 /// The bytes of a batch.

@@ -1,0 +1,14 @@
+use Rattle.std.proofs.Common.{rules, ◌≡◌, ◌++◌, ◌∙◌, ap, List, ℕ}
+use Rattle.std.specs.Fmt.{decimal}
+use Rattle.std.specs.Prelude.{codes}
+use Rattle.std.specs.Str.{chars}
+use Rattle.std.proofs.lemmas.Fmt.{IsAscii-decimal}
+use Rattle.std.proofs.lemmas.Str.{chars-IsAscii}
+use Rattle.blazor_top.proofs.playing.step_line.Goals as goal
+
+pub returns : goal.returns
+returns c =
+    let fits = c.ranges.number.fits in
+    let digits : c.as_str.result.now ≡ decimal c.args.number = search rules in
+    let read : chars c.as_str.result.now ≡ decimal c.args.number = ap chars digits ∙ chars-IsAscii (decimal c.args.number) (IsAscii-decimal c.args.number fits) in
+    c.in_ok-push_str.ensures.ok ∙ ap (λ (x : List ℕ). x ++ chars c.as_str.result.now) c.in_ok-line.ensures ∙ ap (λ (x : List ℕ). codes "schedule step " ++ x) read

@@ -1,0 +1,106 @@
+// The words of the command line.
+ghost use Rattle.std.specs.Prelude.{◌≡◌, ◌++◌, IfOk, OnOk};
+ghost use Rattle.blazor_top.specs.Command.{begins_with_dash, command_of, names_in, render_of, replay_of};
+
+use sqlite_items::Items;
+use std::alloc::Global;
+use text_core::{Oom, Txt};
+
+/// The most files that a program may have beside its root.
+const MOST_OTHERS: usize = 255;
+
+/// What the words of the command line ask for.
+#[derive(Debug, Drop)]
+pub enum Command {
+    /// The first page of the component that a file spells.
+    Render {
+        file: Txt,
+    },
+    /// The transcript of a schedule over a program, whose root stands in the first of its files.
+    Replay {
+        schedule: Txt,
+        root: Txt,
+        others: Items<Txt>,
+    },
+}
+
+/// The command that the words ask for, if they ask for one.
+pub fn command_of(alloc: Global, words: &[Txt]) -> Result<Option<Command>, Oom>
+    ensures { IfOk result (λ found. found ≡ command_of words.now) }
+{
+    let [word, rest @ ..] = words else {
+        return Ok(None);
+    };
+    if word.is("render") {
+        return Ok(names_in(alloc, rest)?.and_then(render_of));
+    }
+    if word.is("replay") {
+        return Ok(names_in(alloc, rest)?.and_then(replay_of));
+    }
+    Ok(None)
+}
+
+fn render_of(names: Items<Txt>) -> Option<Command>
+    ensures { result ≡ render_of names }
+{
+    let mut names = names;
+    if names.len() != 1 {
+        return None;
+    }
+    let file = names.remove(0);
+    Some(Command::Render { file })
+}
+
+fn replay_of(names: Items<Txt>) -> Option<Command>
+    ensures { result ≡ replay_of names }
+{
+    let mut names = names;
+    if names.len() < 2 {
+        return None;
+    }
+    let schedule = names.remove(0);
+    let root = names.remove(0);
+    if names.len() > MOST_OTHERS {
+        return None;
+    }
+    Some(Command::Replay {
+        schedule,
+        root,
+        others: names,
+    })
+}
+
+/// The names among words that hold no options.
+fn names_in(alloc: Global, words: &[Txt]) -> Result<Option<Items<Txt>>, Oom>
+    ensures { IfOk result (λ names. names ≡ names_in words.now) }
+{
+    let mut names = Items::new(alloc);
+    let mut rest = words;
+    while let [word, behind @ ..] = rest {
+        if word.is("--") {
+            push_all(&mut names, behind)?;
+            return Ok(Some(names));
+        }
+        if begins_with_dash(word) {
+            return Ok(None);
+        }
+        names.push(word.clone()?)?;
+        rest = behind;
+    }
+    Ok(Some(names))
+}
+
+fn push_all(names: &mut Items<Txt>, words: &[Txt]) -> Result<(), Oom>
+    ensures { OnOk result (names.new ≡ names.old ++ words.now) }
+{
+    for word in words {
+        names.push(word.clone()?)?;
+    }
+    Ok(())
+}
+
+fn begins_with_dash(word: &Txt) -> bool
+    ensures { result ≡ begins_with_dash word.now }
+{
+    word.first() == Some('-')
+}
