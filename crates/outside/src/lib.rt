@@ -13,9 +13,9 @@ mod mem_files;
 mod mem_sink;
 mod sink;
 mod system;
-mod writing;
 #[cfg(test)]
 mod tests;
+mod writing;
 
 pub use files::{FileRead, Files};
 pub use mem_files::MemFiles;
