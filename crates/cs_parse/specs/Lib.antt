@@ -1,0 +1,15 @@
+pub mod Numbers
+pub mod Reading
+pub mod TypeReading
+pub mod OpenTypes
+pub mod ExpressionReading
+pub mod Frames
+pub mod TreeViews
+pub mod SimpleReading
+pub mod StatementReading
+pub mod MemberReading
+pub mod WholeReading
+pub mod BodyReading
+pub mod LambdaReading
+pub mod DepthReading
+pub mod Answers
