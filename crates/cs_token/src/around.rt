@@ -7,7 +7,7 @@ use text_core::{Oom, Place};
 
 /// What is open round a place, the innermost of it.
 #[derive(Clone, Copy, Debug, PartialEq, Eq)]
-pub(crate) enum Around {
+pub enum Around {
     /// An interpolated text: its literal parts stand here.
     Interpolation,
     /// A hole of an interpolated text: code stands here.
@@ -18,13 +18,13 @@ pub(crate) enum Around {
 
 /// What is open, and the place where it begins.
 #[derive(Clone, Copy, Debug, PartialEq, Eq)]
-pub(crate) struct Opened {
+pub struct Opened {
     pub around: Around,
     pub place: Place,
 }
 
 /// The innermost of what is open, which is the last.
-pub(crate) fn innermost(opened: &[Opened]) -> Option<Around>
+pub fn innermost(opened: &[Opened]) -> Option<Around>
     ensures { result ≡ innermost (reverse opened.now) }
 {
     match opened {
@@ -68,7 +68,7 @@ fn move_past_sign(opened: &mut Vec<Opened>, sign: Sign, place: Place) -> Result<
 }
 
 /// What is open behind a token, or behind white space or a comment, at this place.
-pub(crate) fn move_past(
+pub fn move_past(
     opened: &mut Vec<Opened>,
     kind: &Option<TokenKind>,
     place: Place,

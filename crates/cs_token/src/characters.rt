@@ -6,7 +6,7 @@ ghost use Rattle.cs_token.specs.Reading.Runs.{front, past, strip};
 
 /// A class of characters.
 #[derive(Clone, Copy, Debug, PartialEq, Eq)]
-pub(crate) enum Class {
+pub enum Class {
     /// Space, tab, line feed and carriage return.
     White,
     /// A to Z, a to z and `_`.
@@ -45,7 +45,7 @@ fn is_digit(character: char) -> bool
 }
 
 /// Whether the first character is of the class.
-pub(crate) fn begins(class: Class, text: &[char]) -> bool
+pub fn begins(class: Class, text: &[char]) -> bool
     ensures { result ≡ begins_with class text.now }
 {
     match text {
@@ -55,7 +55,7 @@ pub(crate) fn begins(class: Class, text: &[char]) -> bool
 }
 
 /// The longest front that is all of the class, and what stands behind it.
-pub(crate) fn split(class: Class, text: &[char]) -> (&[char], &[char])
+pub fn split(class: Class, text: &[char]) -> (&[char], &[char])
     ensures front { result.0.now ≡ front class text.now }
     ensures past { result.1.now ≡ past class text.now }
 {
@@ -69,7 +69,7 @@ pub(crate) fn split(class: Class, text: &[char]) -> (&[char], &[char])
 
 /// What stands behind this front.
 #[tactic(auto, unfolding(crate::specs::Reading::Runs::strip))]
-pub(crate) fn after<'a>(front: &[char], text: &'a [char]) -> Option<&'a [char]>
+pub fn after<'a>(front: &[char], text: &'a [char]) -> Option<&'a [char]>
     ensures { option_map (λ rest. rest.now) result ≡ strip front.now text.now }
 {
     text.strip_prefix(front)

@@ -7,7 +7,7 @@ use thiserror::Error;
 
 /// What is wrong where a text can't go on.
 #[derive(Clone, Copy, Debug, PartialEq, Eq)]
-pub(crate) enum Cause {
+pub enum Cause {
     BadCharacter,
     UnendedText,
     UnendedComment,

@@ -14,7 +14,7 @@ use text_core::{Oom, Txt, read_i32};
 
 /// What stands at the front of a text.
 #[derive(Debug, Drop)]
-pub(crate) enum Front<'a> {
+pub enum Front<'a> {
     /// A token, or white space or a comment where there is none, and what stands behind it.
     Piece(Option<TokenKind>, &'a [char]),
     /// Nothing that goes on: what is wrong, and the text from the wrong place on.
@@ -186,11 +186,7 @@ fn code(alloc: Global, around: Option<Around>, text: &[char]) -> Result<Front<'_
 }
 
 /// What stands at the front of a text, where this is open round it.
-pub(crate) fn front_of(
-    alloc: Global,
-    around: Option<Around>,
-    text: &[char],
-) -> Result<Front<'_>, Oom>
+pub fn front_of(alloc: Global, around: Option<Around>, text: &[char]) -> Result<Front<'_>, Oom>
     ensures { IfOk result (λ front. read front ≡ front_at around text.now) }
 {
     match around {

@@ -6,6 +6,9 @@
 //! wrong in one way, and never both; the tokens cover it but for white space and comments. The contract does not say that memory
 //! is found, nor what tokens mean: whether braces are in balance outside interpolated texts, or what an expression is, is left to
 //! who reads the tokens.
+//!
+//! A reader of texts in which C# stands among other things goes token by token itself: `front_of` says what stands at the front of a
+//! text, exactly, `move_past` what is open behind it, and `behind` at which place.
 #![tactic(auto)]
 
 mod around;
@@ -20,12 +23,16 @@ mod token;
 mod words;
 mod written;
 
-pub use fault::LexFault;
+pub use around::{Around, Opened, innermost, move_past};
+pub use characters::{Class, after, begins, split};
+pub use fault::{Cause, LexFault};
+pub use front::{Front, front_of};
 pub use laws::{
     a_text_goes_wrong_in_one_way, a_text_spells_one_token_list, a_text_spells_tokens_or_goes_wrong,
     a_text_that_goes_wrong_spells_nothing,
 };
 pub use lexer::tokens;
+pub use places::{behind, first_place};
 pub use token::{Sign, Token, TokenKind, Word};
 
 #[cfg(test)]

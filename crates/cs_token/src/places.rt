@@ -5,7 +5,7 @@ ghost use Rattle.cs_token.specs.Places.{first_place, past_character, behind};
 use text_core::Place;
 
 /// Where a text begins.
-pub(crate) fn first_place() -> Place
+pub fn first_place() -> Place
     ensures { result ≡ first_place }
 {
     Place { line: 1, column: 1 }
@@ -30,7 +30,7 @@ fn past_character(place: Place, character: char) -> Place
 }
 
 /// The place behind these characters.
-pub(crate) fn behind(place: Place, text: &[char]) -> Place
+pub fn behind(place: Place, text: &[char]) -> Place
     requires room { place.line + place.column + length text.now < 2 ^ 32 }
     requires column { 1 ≤ place.column }
     ensures value { result ≡ behind place text.now }
