@@ -1,5 +1,5 @@
 -- Which tokens spell which statements.
-use Rattle.std.specs.Prelude.{◌≡◌, ℕ, ◌+◌, ◌-◌, ◌≤◌, ℤ, neg_ℤ, codes, Bool, true, false, List, [], ◌∷◌, Option, Some, None}
+use Rattle.std.specs.Prelude.{◌≡◌, ℕ, ◌+◌, ◌-◌, ◌≤◌, ℤ, pos, neg_ℤ, codes, Bool, true, false, List, [], ◌∷◌, Option, Some, None}
 use Rattle.text_core.specs.declared.place.Place.{Place}
 use Rattle.cs_ast.specs.declared.cs_type.TypeExpr.{TypeExpr}
 use Rattle.cs_ast.specs.declared.expression.Expr.{Expr}
@@ -91,11 +91,11 @@ pub data Step : List Token → List Token → Option Expr → Type 0 where
   none : (rest : List Token) → Step rest rest None
   some : (p : Place) (ts rest : List Token) (a : Expr) → Acts p ts rest a → Step ts rest (Some a)
 
--- a constant behind `case`
+-- a constant behind `case`; what stands behind `-` is not below 0
 pub data Constant : List Token → List Token → Label → Type 0 where
   number : (n : ℤ) (t : Token) (rest : List Token) → t.kind ≡ k.Number n → Constant (t ∷ rest) rest (record { place = t.place; kind = lk.Int n })
-  minus : (n : ℤ) (t u : Token) (rest : List Token) →
-      IsSign s.Minus t → u.kind ≡ k.Number n → Constant (t ∷ u ∷ rest) rest (record { place = t.place; kind = lk.Int (neg_ℤ n) })
+  minus : (n : ℕ) (t u : Token) (rest : List Token) →
+      IsSign s.Minus t → u.kind ≡ k.Number (pos n) → Constant (t ∷ u ∷ rest) rest (record { place = t.place; kind = lk.Int (neg_ℤ (pos n)) })
   text : (x : List ℕ) (t : Token) (rest : List Token) → t.kind ≡ k.Text x → Constant (t ∷ rest) rest (record { place = t.place; kind = lk.Text x })
   yes : (t : Token) (rest : List Token) → IsWord w.True t → Constant (t ∷ rest) rest (record { place = t.place; kind = lk.Bool true })
   no : (t : Token) (rest : List Token) → IsWord w.False t → Constant (t ∷ rest) rest (record { place = t.place; kind = lk.Bool false })

@@ -1,6 +1,6 @@
 -- What completes the frames of statements is spelled.
 use Rattle.std.proofs.Common.{◌≡◌, ℕ, zero, suc, ◌+◌, ◌-◌, ◌≤◌, List, [], ◌∷◌, ◌++◌, length, refl, sym, ap, ◌∙◌, subst, arith, append_assoc, inl, inr}
-use Rattle.std.specs.Prelude.{Bool, true, false, ◌||◌, nat_lt, neg_ℤ, if◌then◌else◌, codes, Option, Some, None, ◌⊎◌}
+use Rattle.std.specs.Prelude.{Bool, true, false, ◌||◌, nat_lt, pos, neg_ℤ, if◌then◌else◌, codes, Option, Some, None, ◌⊎◌}
 use Rattle.std.proofs.lemmas.Bool.{ltb-false}
 use Rattle.text_core.specs.declared.place.Place.{Place}
 use Rattle.cs_ast.specs.declared.expression.Expr.{Expr}
@@ -221,7 +221,7 @@ negative_sound t [] l rest i e = absurd (cc)
 negative_sound t (u ∷ us) l rest i e = go u.kind refl e
   where
     go : (kind : TokenKind) → u.kind ≡ kind → r.negated t.place kind us ≡ Some (l, rest) → Constant (t ∷ u ∷ us) rest l
-    go (k.Number n) m e = moved (λ z. Constant (t ∷ u ∷ us) z.1 z.0) e (g.minus n t u us i m)
+    go (k.Number (pos n)) m e = moved (λ z. Constant (t ∷ u ∷ us) z.1 z.0) e (g.minus n t u us i m)
     go _ m e = absurd (cc)
 
 constant_of_sound : (kind : TokenKind) (t : Token) (ts : List Token) (l : Label) (rest : List Token) → t.kind ≡ kind → r.constant_of kind t.place ts ≡ Some (l, rest) → Constant (t ∷ ts) rest l

@@ -1,6 +1,6 @@
 -- What is read takes tokens.
 use Rattle.std.proofs.Common.{◌≡◌, ℕ, zero, suc, ◌+◌, ◌*◌, ◌<◌, ◌≤◌, List, [], ◌∷◌, length, refl, sym, ap, ◌∙◌, arith}
-use Rattle.std.specs.Prelude.{Bool, true, false, ◌||◌, nat_lt, if◌then◌else◌, Option, Some, None}
+use Rattle.std.specs.Prelude.{Bool, true, false, ◌||◌, nat_lt, pos, if◌then◌else◌, Option, Some, None}
 use Rattle.text_core.specs.declared.place.Place.{Place}
 use Rattle.cs_ast.specs.declared.cs_type.TypeExpr.{TypeExpr}
 use Rattle.cs_ast.specs.declared.expression.Expr.{Expr}
@@ -257,7 +257,7 @@ negative_less p [] x e = absurd (cc)
 negative_less p (t ∷ ts) x e = go t.kind e
   where
     go : (kind : TokenKind) → r2.negated p kind ts ≡ Some x → length x.1 ≤ length (t ∷ ts)
-    go (k.Number n) e = omega (arith, lengths e)
+    go (k.Number (pos n)) e = omega (arith, lengths e)
     go _ e = absurd (cc)
 
 constant_of_less : (kind : TokenKind) (p : Place) → Less (r2.constant_of kind p)

@@ -1,5 +1,5 @@
 -- How statements are read, from the left.
-use Rattle.std.specs.Prelude.{ℕ, zero, suc, ◌+◌, ◌-◌, ◌*◌, neg_ℤ, Bool, true, false, ◌||◌, nat_lt, if◌then◌else◌, List, [], ◌∷◌, ◌++◌, length, Option, Some, None}
+use Rattle.std.specs.Prelude.{ℕ, zero, suc, pos, ◌+◌, ◌-◌, ◌*◌, neg_ℤ, Bool, true, false, ◌||◌, nat_lt, if◌then◌else◌, List, [], ◌∷◌, ◌++◌, length, Option, Some, None}
 use Rattle.text_core.specs.declared.place.Place.{Place}
 use Rattle.cs_ast.specs.declared.expression.Expr.{Expr}
 use Rattle.cs_ast.specs.declared.expression.Label.{Label}
@@ -196,9 +196,9 @@ constant_word w.False = Some (lk.Bool false)
 constant_word w.Null = Some lk.Null
 constant_word _ = None
 
--- a number behind `-`
+-- a number behind `-`, not below 0
 abbrev pub negated : Place → TokenKind → List Token → Read Label
-negated p (k.Number n) ts = Some (label p (lk.Int (neg_ℤ n)), ts)
+negated p (k.Number (pos n)) ts = Some (label p (lk.Int (neg_ℤ (pos n))), ts)
 negated p _ ts = None
 
 abbrev pub negative : Place → List Token → Read Label

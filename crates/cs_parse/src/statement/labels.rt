@@ -35,7 +35,7 @@ fn constant_word(word: Word) -> Option<LabelKind>
     }
 }
 
-/// A number behind `-`. Where its opposite is no `i32`, which no text spells, it is given up.
+/// A number behind `-`.
 fn negative<'a>(place: Place, tokens: &'a [Token]) -> Front<'a, Label>
     ensures { Gives (λ x. (x.0, x.1.now)) result (spec.negative place tokens.now) }
 {
@@ -43,11 +43,8 @@ fn negative<'a>(place: Place, tokens: &'a [Token]) -> Front<'a, Label>
         return Err(Unread::Syntax(0));
     };
     match &t.kind {
-        TokenKind::Number(number) => {
-            let Some(opposite) = number.checked_neg() else {
-                return Err(Unread::Oom);
-            };
-            let kind = LabelKind::Int(opposite);
+        TokenKind::Number(number) if *number >= 0 => {
+            let kind = LabelKind::Int(-*number);
             Ok((Label { place, kind }, rest))
         }
         _ => Err(Unread::Syntax(tokens.len())),
