@@ -1,0 +1,4 @@
+pub mod History
+pub mod What
+pub mod Kept
+pub mod Naming
