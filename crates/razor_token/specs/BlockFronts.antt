@@ -1,5 +1,5 @@
 -- What stands at the front of code with markup.
-use Rattle.std.specs.Prelude.{ℕ, Bool, true, false, ◌&&◌, List, take, drop, codes, Option, Some, None, if◌then◌else◌}
+use Rattle.std.specs.Prelude.{ℕ, Bool, true, false, ◌&&◌, ◌==◌, List, drop, codes, Option, Some, None, if◌then◌else◌}
 use Rattle.std.specs.Str.{bytes_eq}
 use Rattle.cs_token.specs.declared.around.Around.{Around}
 use Rattle.cs_token.specs.declared.token.Sign.{Sign}
@@ -14,7 +14,7 @@ use Rattle.razor_token.specs.declared.context.Point.TheVariants as point
 use Rattle.razor_token.specs.declared.found.CodeFront.{CodeFront}
 use Rattle.razor_token.specs.declared.found.Found.{Found}
 use Rattle.razor_token.specs.declared.piece.PieceKind.TheVariants as k
-use Rattle.razor_token.specs.declared.runs.Run.TheVariants as r
+use Rattle.razor_token.specs.declared.runs.Kind.TheVariants as r
 use Rattle.razor_token.specs.Runs.{run, begins}
 use Rattle.razor_token.specs.Contexts.{stays, leaves, enters, becomes, becomes_both}
 use Rattle.razor_token.specs.Pieces.{piece}
@@ -47,7 +47,7 @@ head_at with_else around text = head_piece with_else around (code_front around t
 abbrev pub else_follows : List ℕ → Bool
 else_follows text =
     let rest = drop (run r.White text) text in
-    bytes_eq (take (run r.Word rest) rest) (codes "else")
+    begins (codes "else") rest && (run r.Word rest == 4)
 
 -- a block ends before this text; behind that of an `if` the word `else` goes on
 abbrev pub end_change : Bool → List ℕ → Change

@@ -7,8 +7,8 @@ use Rattle.razor_token.specs.declared.context.Context.{Context}
 use Rattle.razor_token.specs.declared.context.Context.TheVariants as x
 use Rattle.razor_token.specs.declared.found.Found.{Found}
 use Rattle.razor_token.specs.declared.piece.PieceKind.TheVariants as k
-use Rattle.razor_token.specs.declared.runs.Run.{Run}
-use Rattle.razor_token.specs.declared.runs.Run.TheVariants as r
+use Rattle.razor_token.specs.declared.runs.Kind.{Kind}
+use Rattle.razor_token.specs.declared.runs.Kind.TheVariants as r
 use Rattle.razor_token.specs.Runs.{run, begins, count_to}
 use Rattle.razor_token.specs.Tags.{is_component, is_void}
 use Rattle.razor_token.specs.Contexts.{stays, leaves, enters, enters_both, becomes}
@@ -59,12 +59,17 @@ abbrev pub is_top : Option Context → Bool
 is_top None = true
 is_top (Some context) = false
 
+-- an at sign before a word
+abbrev pub word_at : Option Context → List ℕ → List ℕ → Option Found
+word_at context word text =
+    if is_code_word word then piece k.CodeAt 1 (enters (x.Head false))
+    else if is_top context then top_word word text
+    else shown_at text
+
 -- an at sign that isn't literal text and begins no comment
 unfoldable pub transition_at : Option Context → List ℕ → Option Found
 transition_at context text =
-    if begins (codes "{") (drop 1 text) || is_code_word (word_behind text) then piece k.CodeAt 1 (enters (x.Head false))
-    else if is_top context then top_word (word_behind text) text
-    else shown_at text
+    if begins (codes "{") (drop 1 text) then piece k.CodeAt 1 (enters (x.Head false)) else word_at context (word_behind text) text
 
 -- an at sign
 unfoldable pub at_sign : Option Context → Option ℕ → List ℕ → Option Found
@@ -102,13 +107,17 @@ is_line (Some x.Line) = true
 is_line _ = false
 
 -- the characters of literal text there
-abbrev pub content_run : Option Context → Run
+abbrev pub content_run : Option Context → Kind
 content_run context = if is_line context then r.InLine else r.Content
 
 -- content of the innermost context or of the file, with this character before it
 unfoldable pub content_at : Option Context → Option ℕ → List ℕ → Option Found
 content_at context last text =
-    if is_line context && begins (10 ∷ []) text then piece k.LineEnd 0 leaves
-    else if begins (codes "@") text then at_sign context last text
+    if begins (codes "@") text then at_sign context last text
     else if begins (codes "<") text then tag_sign context text
     else literal (run (content_run context) text) text
+
+-- content behind `@:`, which ends before a line feed
+unfoldable pub line_at : Option ℕ → List ℕ → Option Found
+line_at last text =
+    if begins (10 ∷ []) text then piece k.LineEnd 0 leaves else content_at (Some x.Line) last text

@@ -17,7 +17,7 @@ use Rattle.razor_token.specs.declared.piece.PieceKind.TheVariants as k
 use Rattle.razor_token.specs.Contexts.{innermost, changed}
 use Rattle.razor_token.specs.CodeFronts.{opening_at, name_at, chain_at, closing_at, members_at, bracket_at}
 use Rattle.razor_token.specs.Directives.{directive_at}
-use Rattle.razor_token.specs.ContentFronts.{content_at}
+use Rattle.razor_token.specs.ContentFronts.{content_at, line_at}
 use Rattle.razor_token.specs.ValueFronts.{named_at, value_at, code_lead_at, shown_lead_at}
 use Rattle.razor_token.specs.TagFronts.{start_tag_at, end_tag_at}
 use Rattle.razor_token.specs.BlockFronts.{head_at, block_at}
@@ -44,7 +44,7 @@ last_of text = first_of (reverse text)
 abbrev pub found_in : Option Context → Bool → Option Around → Option ℕ → List ℕ → Option Found
 found_in None line around last text = content_at None last text
 found_in (Some x.Element) line around last text = content_at (Some x.Element) last text
-found_in (Some x.Line) line around last text = content_at (Some x.Line) last text
+found_in (Some x.Line) line around last text = line_at last text
 found_in (Some (x.StartTag component void)) line around last text = start_tag_at component void text
 found_in (Some x.EndTag) line around last text = end_tag_at text
 found_in (Some (x.Named holds)) line around last text = named_at holds text

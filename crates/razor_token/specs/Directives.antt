@@ -8,7 +8,7 @@ use Rattle.razor_token.specs.declared.context.Wanted.{Wanted}
 use Rattle.razor_token.specs.declared.context.Wanted.TheVariants as wanted
 use Rattle.razor_token.specs.declared.found.Found.{Found}
 use Rattle.razor_token.specs.declared.piece.PieceKind.TheVariants as k
-use Rattle.razor_token.specs.declared.runs.Run.TheVariants as r
+use Rattle.razor_token.specs.declared.runs.Kind.TheVariants as r
 use Rattle.razor_token.specs.Runs.{run, begins}
 use Rattle.razor_token.specs.Contexts.{stays, leaves, enters, becomes}
 use Rattle.razor_token.specs.Pieces.{piece}
@@ -17,10 +17,6 @@ use Rattle.razor_token.specs.CodeFronts.{code_front, name_piece}
 -- one line feed, if it stands there
 abbrev pub feed_count : List ℕ → ℕ
 feed_count text = if begins (10 ∷ []) text then 1 else 0
-
--- what stands behind so many characters and blanks
-abbrev pub past_blanks : ℕ → List ℕ → List ℕ
-past_blanks count text = let rest = drop count text in drop (run r.Blank rest) rest
 
 -- so many characters and the blanks behind them
 abbrev pub with_blanks : ℕ → List ℕ → ℕ
@@ -42,7 +38,7 @@ page_text count text =
 -- behind `@page`: blanks and a text in double quotes
 abbrev pub page_directive : List ℕ → Option Found
 page_directive text =
-    if begins (34 ∷ []) (past_blanks 5 text) then page_text (with_blanks 5 text + 1) text else None
+    if begins (34 ∷ []) (drop (with_blanks 5 text) text) then page_text (with_blanks 5 text + 1) text else None
 
 -- `@implements`, blanks and `IDisposable`, with a line feed right behind it
 abbrev pub implements_count : ℕ → List ℕ → Option Found

@@ -1,6 +1,7 @@
 pub mod Runs
 pub mod Tags
 pub mod Contexts
+pub mod Moving
 pub mod Pieces
 pub mod CodeFronts
 pub mod Directives
@@ -9,3 +10,5 @@ pub mod ValueFronts
 pub mod TagFronts
 pub mod BlockFronts
 pub mod Cutting
+pub mod Answers
+pub mod Cutters

@@ -14,8 +14,8 @@ use Rattle.razor_token.specs.declared.found.Found.{Found}
 use Rattle.razor_token.specs.declared.piece.PieceKind.TheVariants as k
 use Rattle.razor_token.specs.declared.piece.Quote.{Quote}
 use Rattle.razor_token.specs.declared.piece.Quote.TheVariants as q
-use Rattle.razor_token.specs.declared.runs.Run.{Run}
-use Rattle.razor_token.specs.declared.runs.Run.TheVariants as r
+use Rattle.razor_token.specs.declared.runs.Kind.{Kind}
+use Rattle.razor_token.specs.declared.runs.Kind.TheVariants as r
 use Rattle.razor_token.specs.Runs.{run, bare_run, begins}
 use Rattle.razor_token.specs.Contexts.{stays, leaves, enters, enters_both, becomes, becomes_both}
 use Rattle.razor_token.specs.Pieces.{piece, literal}
@@ -23,7 +23,7 @@ use Rattle.razor_token.specs.CodeFronts.{mark, code_front, code_in, where_it, ke
 use Rattle.razor_token.specs.ContentFronts.{is_within_word}
 
 -- the characters of literal text in these quotes
-abbrev pub quoted_run : Quote → Run
+abbrev pub quoted_run : Quote → Kind
 quoted_run q.Double = r.DoubleQuoted
 quoted_run q.Single = r.SingleQuoted
 
@@ -44,11 +44,15 @@ bare_change h.Text at = becomes (x.Value held.Text None)
 bare_change _ false = becomes (x.Value held.Text None)
 bare_change _ true = becomes_both (x.Value held.Ended None) x.ShownLead
 
--- `=` and the quote behind it
+-- `=` and this quote behind it
+abbrev pub quoted_start : Holds → Quote → List ℕ → Option Found
+quoted_start holds quote text = piece (k.ValueStart (Some quote)) 2 (quoted_change holds quote (begins (codes "@") (drop 2 text)))
+
+-- `=` and the quote behind it, or the value
 unfoldable pub named_at : Holds → List ℕ → Option Found
 named_at holds text =
-    if begins (61 ∷ 34 ∷ []) text then piece (k.ValueStart (Some q.Double)) 2 (quoted_change holds q.Double (begins (codes "@") (drop 2 text)))
-    else if begins (61 ∷ 39 ∷ []) text then piece (k.ValueStart (Some q.Single)) 2 (quoted_change holds q.Single (begins (codes "@") (drop 2 text)))
+    if begins (61 ∷ 34 ∷ []) text then quoted_start holds q.Double text
+    else if begins (61 ∷ 39 ∷ []) text then quoted_start holds q.Single text
     else if begins (codes "=") text then piece (k.ValueStart None) 1 (bare_change holds (begins (codes "@") (drop 1 text)))
     else None
 
