@@ -1,0 +1,12 @@
+pub mod Pieces
+pub mod Literals
+pub mod Brackets
+pub mod Shown
+pub mod TextValues
+pub mod AttributeNames
+pub mod Attributes
+pub mod Statements
+pub mod Nodes
+pub mod FileTexts
+pub mod Components
+pub mod Nesting

@@ -1,0 +1,14 @@
+pub mod Runs
+pub mod Tags
+pub mod Contexts
+pub mod Moving
+pub mod Pieces
+pub mod CodeFronts
+pub mod Directives
+pub mod ContentFronts
+pub mod ValueFronts
+pub mod TagFronts
+pub mod BlockFronts
+pub mod Cutting
+pub mod Answers
+pub mod Cutters
