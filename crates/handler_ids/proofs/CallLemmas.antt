@@ -1,14 +1,12 @@
 -- What holds of a history after any calls.
-use Rattle.std.proofs.Common.{◌≡◌, ◌≢◌, ℕ, zero, suc, ◌+◌, ◌-◌, ◌<◌, ◌≤◌, ◌==◌, nat_lt, cond, Bool, true, false, List, [], ◌∷◌, ◌++◌, length, Option, Some, None, slice_get, refl, sym, ap, subst, ◌∙◌, arith}
-use Rattle.std.proofs.lemmas.Bool.{cases_eq, ne_eqb}
+use Rattle.std.proofs.Common.{◌≡◌, ℕ, zero, suc, ◌+◌, ◌-◌, ◌<◌, ◌≤◌, ◌==◌, nat_lt, cond, Bool, true, false, List, [], ◌∷◌, ◌++◌, length, Option, Some, None, slice_get, refl, sym, ap, subst, ◌∙◌, arith}
 use Rattle.std.proofs.lemmas.List.{length_push}
 use Rattle.std.proofs.lemmas.Option.{same_Some}
 use Rattle.handler_ids.specs.declared.handler_value.HandlerValue.{HandlerValue}
 use Rattle.handler_ids.specs.History.{Past, at_id, disposed, disposed_at, disposed_by}
-use Rattle.handler_ids.specs.What.{What, live, held, gone, unknown, what_since, what_of, found}
+use Rattle.handler_ids.specs.What.{live, held, gone, what_since, what_of, found}
 use Rattle.handler_ids.specs.Naming.{IsGiven}
 use Rattle.handler_ids.specs.Calls.{Calls, no_call, then_give, then_dispose, GoesOn}
-use Rattle.handler_ids.proofs.KeptLemmas.{live_past}
 
 length-disposed_at : (batch place : ℕ) (history : List Past) → length (disposed_at batch place history) ≡ length history
 length-disposed_at batch place [] = refl
@@ -54,12 +52,15 @@ later-push (first ∷ history) more past (suc place) is = later-push history mor
 later-disposed : (batch : ℕ) (history : List Past) (place other : ℕ) (past : Past) → slice_get history other ≡ Some past → (place ≡ other → past.disposed ≡ None) → Later (disposed_at batch place history) other past
 later-disposed batch [] place other past is none = absurd (cc)
 later-disposed batch (first ∷ history) zero zero past is none =
-    let same : first ≡ past = same_Some first past is in
-    (disposed batch past, ap (λ (p : Past). Some (disposed batch p)) same, record {
-      value = refl;
-      given = refl;
-      disposed = λ by was. let never = none refl in absurd (cc);
-    })
+    let same : first ≡ past = same_Some first past is in (
+      disposed batch past,
+      ap (λ (p : Past). Some (disposed batch p)) same,
+      record {
+        value = refl;
+        given = refl;
+        disposed = λ by was. let never = none refl in absurd (cc);
+      },
+    )
 later-disposed batch (first ∷ history) zero (suc other) past is none = (past, is, same_entry past)
 later-disposed batch (first ∷ history) (suc place) zero past is none = (past, is, same_entry past)
 later-disposed batch (first ∷ history) (suc place) (suc other) past is none = later-disposed batch history place other past is (λ same. none (ap suc same))
@@ -71,19 +72,25 @@ undisposed history id released value past is stands = by_test (id == 0) is
     by_later : (later : Bool) (own : HandlerValue) (batch : ℕ) → cond later (held own batch) (gone batch) ≡ live value → ⊥
     by_later true own batch is = cc
     by_later false own batch is = cc
+
     by_since : (own : HandlerValue) (batch : Option ℕ) → what_since own batch released ≡ live value → batch ≡ None
     by_since own None is = refl
     by_since own (Some batch) is = absurd (by_later (nat_lt released batch) own batch is)
+
     by_test : (zero_id : Bool) → what_of (cond zero_id None (slice_get history (id - 1))) released ≡ live value → past.disposed ≡ None
     by_test true is = absurd (cc)
     by_test false is = by_since past.value past.disposed (ap (λ (entry : Option Past). what_of entry released) (sym stands) ∙ is)
 
 then_later : (history : List Past) (place : ℕ) (past between : Past) → GoesOn past between → Later history place between → Later history place past
-then_later history place past between goes (later, stands, on) = (later, stands, record {
-  value = on.value ∙ goes.value;
-  given = on.given ∙ goes.given;
-  disposed = λ batch is. on.disposed batch (goes.disposed batch is);
-})
+then_later history place past between goes (later, stands, on) = (
+  later,
+  stands,
+  record {
+    value = on.value ∙ goes.value;
+    given = on.given ∙ goes.given;
+    disposed = λ batch is. on.disposed batch (goes.disposed batch is);
+  },
+)
 
 -- at its place an entry goes on over any calls
 later-calls : (old new : List Past) (place : ℕ) (past : Past) → Calls old new → slice_get old place ≡ Some past → Later new place past

@@ -1,5 +1,5 @@
 -- What calls make of a history.
-use Rattle.std.specs.Prelude.{◌≡◌, ℕ, List, Option, Some}
+use Rattle.std.specs.Prelude.{◌≡◌, ℕ, List, Some}
 use Rattle.handler_ids.specs.declared.handler_value.HandlerValue.{HandlerValue}
 use Rattle.handler_ids.specs.History.{Past, disposed_by}
 use Rattle.handler_ids.specs.What.{found, live}
