@@ -2,7 +2,7 @@
 use Rattle.std.proofs.Common.{◌≡◌, ℕ, zero, suc, ◌+◌, ◌-◌, ◌<◌, ◌==◌, nat_lt, nat_le, cond, Bool, true, false, max, List, [], ◌∷◌, ◌++◌, length, map, set, get_or, take, drop, Option, Some, None, slice_get, refl, sym, ap, ◌∙◌, arith}
 use Rattle.std.specs.Option.{option_map}
 use Rattle.std.proofs.lemmas.Bool.Decides.{nat_tests}
-use Rattle.std.proofs.lemmas.List.{length-map, map_push, drop_more, take_more, take_more_set, drop-set-lt}
+use Rattle.std.proofs.lemmas.List.{map_push, drop_more, take_more, take_more_set, drop-set-lt}
 use Rattle.std.proofs.lemmas.Option.{slice_get-map, same_Some, get_or_from_slice_get}
 use Rattle.handler_ids.specs.declared.handler_value.HandlerValue.{HandlerValue}
 use Rattle.handler_ids.specs.declared.entry.Entry.{Entry}
@@ -10,7 +10,6 @@ use Rattle.handler_ids.specs.declared.entry.Entry.TheVariants.{Live, Held, Gone}
 use Rattle.handler_ids.specs.History.{Past, at_id, disposed, disposed_at, disposed_by}
 use Rattle.handler_ids.specs.What.{live, held, gone, what_since, what_of, found}
 use Rattle.handler_ids.specs.Kept.{Kept, kept_since, kept_of, without_value, Stands, StandsForSome, what_is_kept, what_kept, HasValue, Leads}
-use Rattle.handler_ids.specs.Naming.{StandsFor, IsGiven, IsNamed}
 
 at_id-map : {X Y : Type 0} (f : X → Y) (entries : List X) (id : ℕ) → at_id (map f entries) id ≡ option_map f (at_id entries id)
 at_id-map {X} {Y} f entries id = by_test (id == 0)
@@ -43,18 +42,6 @@ pub StandsForSome-push : (entries after : List Entry) (released : ℕ) (value : 
 StandsForSome-push entries after released value (history, stands) longer =
     let past : Past = record { value = value; given = 0; disposed = None } in
     (history ++ past ∷ [], longer ∙ ap (λ (es : List Entry). es ++ Live value ∷ []) stands ∙ sym (map_push (kept_of released) history past))
-
--- a new entry behind the others
-pub Leads-give : (before after : Kept) (value : HandlerValue) (batch id : ℕ) → after.released ≡ before.released → after.entries ≡ before.entries ++ Live value ∷ [] → id ≡ length before.entries + 1 → Leads before after (IsGiven value batch id)
-Leads-give before after value batch id released entries next_id = (released, λ history stands. (history ++ record { value = value; given = batch; disposed = None } ∷ [], longer history stands, record { above = above history stands; entry = refl }))
-  where
-    longer : (history : List Past) → Stands before history → Stands after (history ++ record { value = value; given = batch; disposed = None } ∷ [])
-    longer history stands =
-        entries ∙ ap (λ (es : List Entry). es ++ Live value ∷ []) (stands ∙ ap (λ n. map (kept_of n) history) (sym released))
-        ∙ sym (map_push (kept_of after.released) history (record { value = value; given = batch; disposed = None }))
-
-    above : (history : List Past) → Stands before history → id ≡ length history + 1
-    above history stands = let as_long : length before.entries ≡ length history = ap length stands ∙ length-map history (kept_of before.released) in omega arith
 
 map-disposed_at : (released batch : ℕ) (history : List Past) (place : ℕ) (past : Past) → slice_get history place ≡ Some past → map (kept_of released) (disposed_at batch place history) ≡ set (map (kept_of released) history) place (kept_of released (disposed batch past))
 map-disposed_at released batch [] place past is = refl
@@ -157,36 +144,3 @@ mapped_more {X} f items initial i read written within long is changed front back
           ∙ ap (map f) (sym (take_more initial i read (omega arith))),
       drop-set-lt (i + 1) items i written (omega arith) ∙ rest,
     )
-
--- an old id that is kept
-pub Leads-keep : (kept : Kept) (id : ℕ) (value : HandlerValue) (batch : ℕ) → HasValue kept id value → Leads kept kept (IsNamed kept.released (Some id) value batch id)
-Leads-keep kept id value batch has = (
-  refl,
-  λ history stands. (
-    history,
-    stands,
-    record {
-      kept = λ _. (refl, refl);
-      given = λ no. absurd (no (sym (what_kept-found kept history id stands) ∙ has));
-    },
-  ),
-)
-
--- no old id stands for a value in a history, where none does by what is kept
-stands_for : (kept : Kept) (history : List Past) (old : Option ℕ) (value : HandlerValue) → Stands kept history → StandsFor (λ k. found history k kept.released) old value → StandsFor (what_kept kept) old value
-stands_for kept history None value stands is = is
-stands_for kept history (Some id) value stands is = what_kept-found kept history id stands ∙ is
-
--- an id that is given, where no old id is kept
-pub Leads-name : (before after : Kept) (old : Option ℕ) (value : HandlerValue) (batch id : ℕ) → (StandsFor (what_kept before) old value → ⊥) → Leads before after (IsGiven value batch id) → Leads before after (IsNamed before.released old value batch id)
-Leads-name before after old value batch id none leads = (
-  leads.0,
-  λ history stands. let next = leads.1 history stands in (
-    next.0,
-    next.1,
-    record {
-      kept = λ is. absurd (none (stands_for before history old value stands is));
-      given = λ _. next.2;
-    },
-  ),
-)

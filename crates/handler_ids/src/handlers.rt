@@ -1,5 +1,5 @@
 // The ids of a circuit.
-ghost use Rattle.std.specs.Prelude.{◌≡◌, ◌↔◌, ◌-◌, ◌^◌, List, [], length, max, IfOk, OnErr, IsTrue, Err, Some, MatchOption};
+ghost use Rattle.std.specs.Prelude.{◌≡◌, ◌↔◌, ◌-◌, ◌^◌, List, [], length, max, IsOk, IfOk, OnErr, IsTrue, Err, Some, MatchOption};
 ghost use Rattle.handler_ids.specs.declared.give_fault.GiveFault.TheVariants.{NumbersSpent};
 ghost use Rattle.handler_ids.specs.History.{Past, at_id, disposed_by};
 ghost use Rattle.handler_ids.specs.What.{found, seen};
@@ -56,6 +56,8 @@ impl Handlers {
     ) -> Result<u64, GiveFault>
         requires live { MatchOption old (Unit {0}) (IsLive self.old) }
         ensures named { IfOk result (λ id. Leads self.old self.new (IsNamed self.old.released old value batch id)) }
+        // An id is kept without memory.
+        ensures keeps { StandsFor (what_kept self.old) old value → IsOk result }
         ensures spent { result ≡ Err NumbersSpent → length self.old.entries ≡ 2 ^ 64 - 1 }
         ensures err { OnErr result (self.new ≡ self.old) }
     {
