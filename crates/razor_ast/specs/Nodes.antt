@@ -79,10 +79,10 @@ module _ (around : Piece → List ℕ) where
     pub data Code : Bool → Place → Jumps → Bool → ℕ → List Piece → List Piece → ℕ → TNode → Type 0 where
       simple : (p : Place) (j : Jumps) (f : Bool) (n : ℕ) (ps rest : List Piece) (a : Stmt) →
           Simple ps rest a → Code true p j f n ps rest n (nd.Statement a)
-      break_ : (j : Jumps) (f : Bool) (n : ℕ) (t c : Piece) (rest : List Piece) →
-          j.breaks ≡ true → IsWord w.Break t → IsSign s.Semicolon c → Code true t.place j f n (t ∷ c ∷ rest) rest n (break_at t.place)
-      continue_ : (j : Jumps) (f : Bool) (n : ℕ) (t c : Piece) (rest : List Piece) →
-          j.continues ≡ true → IsWord w.Continue t → IsSign s.Semicolon c → Code true t.place j f n (t ∷ c ∷ rest) rest n (continue_at t.place)
+      break_ : (p : Place) (j : Jumps) (f : Bool) (n : ℕ) (t c : Piece) (rest : List Piece) →
+          j.breaks ≡ true → IsWord w.Break t → IsSign s.Semicolon c → Code true p j f n (t ∷ c ∷ rest) rest n (break_at t.place)
+      continue_ : (p : Place) (j : Jumps) (f : Bool) (n : ℕ) (t c : Piece) (rest : List Piece) →
+          j.continues ≡ true → IsWord w.Continue t → IsSign s.Semicolon c → Code true p j f n (t ∷ c ∷ rest) rest n (continue_at t.place)
       block : (b : Bool) (p : Place) (j : Jumps) (f : Bool) (n m : ℕ) (o c : Piece) (ps rest : List Piece) (items : List TNode) →
           IsSign s.OpenBrace o → Lines j n ps (c ∷ rest) m items → IsSign s.CloseBrace c → Code b p j f n (o ∷ ps) rest m (nd.Block p items)
       if_alone : (b : Bool) (p : Place) (j : Jumps) (n m : ℕ) (t : Piece) (ps us rest : List Piece) (ts : List Token) (a : Expr) (yes : TNode) →
