@@ -1,11 +1,11 @@
 -- Expressions by the meanings of their parts. Operands are evaluated from left to right.
-use Rattle.std.specs.Prelude.{ℕ, if◌then◌else◌, List, Option, Some, None, true, false}
+use Rattle.std.specs.Prelude.{ℕ, if◌then◌else◌, List, true, false}
 use Rattle.cs_ast.specs.declared.value.Value.{Value}
 use Rattle.cs_ast.specs.declared.value.Value.TheVariants as v
 use Rattle.cs_ast.specs.declared.code.LibraryMember.{LibraryMember}
 use Rattle.cs_ast.specs.declared.operators.BinaryOp.{BinaryOp}
 use Rattle.cs_ast.specs.declared.operators.BinaryOp.TheVariants as op
-use Rattle.cs_meaning.specs.Outcome.{Outcome, gives, Meaning, and_then, chosen}
+use Rattle.cs_meaning.specs.Outcome.{gives, Meaning, and_then, chosen}
 use Rattle.cs_meaning.specs.Kinds.{truth_of, is_null, record_of}
 use Rattle.cs_meaning.specs.NewValues.{made, new_text, texts_of}
 use Rattle.cs_meaning.specs.Operators.{of_values, truth}

@@ -3,12 +3,12 @@ use Rattle.std.specs.Prelude.{ℕ, zero, suc, ◌-◌, List, map, slice_get, Opt
 use Rattle.cs_ast.specs.Bodies.{code_at}
 use Rattle.cs_ast.specs.declared.value.Value.{Value}
 use Rattle.cs_ast.specs.declared.value.Value.TheVariants as v
-use Rattle.cs_ast.specs.declared.code.Code.{Code}
+use Rattle.cs_ast.specs.declared.code.Code.{Code, out-Code}
 use Rattle.cs_ast.specs.declared.code.Code.TheOpen.{Code-F}
-use Rattle.cs_ast.specs.declared.code.Code.TheFolds.{fold-Code}
+use Rattle.cs_ast.specs.declared.code.Code.TheFolds.{map-Code, fold-Code}
 use Rattle.cs_meaning.specs.declared.fault.Fault.TheVariants.{CallDepth}
-use Rattle.cs_meaning.specs.State.{Fields, State, over}
-use Rattle.cs_meaning.specs.Outcome.{Outcome, gives, breaks, continues, faults, stuck, Meaning, in_state, charged, found}
+use Rattle.cs_meaning.specs.State.{Fields, over}
+use Rattle.cs_meaning.specs.Outcome.{gives, breaks, continues, faults, stuck, Meaning, in_state, charged, found}
 use Rattle.cs_meaning.specs.Operators.{of_value, cast}
 use Rattle.cs_meaning.specs.Reading.{indexed, part_of, part_or_null}
 use Rattle.cs_meaning.specs.Variables.{assigned, operator_in, stepped, declared_as, bound}
@@ -46,7 +46,7 @@ if_any it = option_map (λ (it : Part). it.meaning) it
 abbrev pub sections_in : List Part → List (Section (List Meaning))
 sections_in parts = filter_map (λ (it : Part). it.section) parts
 
--- the meanings of the statements of a section
+-- a section with the meanings of its statements
 abbrev pub section_meaning : Section (List Part) → Section (List Meaning)
 section_meaning it = section it.constants it.otherwise (meanings it.statements)
 
@@ -123,6 +123,11 @@ running around = call around.parameters around.bodies (100 - around.depth)
 -- what code means
 abbrev pub meaning : Setting → Code → Meaning
 meaning around = meaning_by around.parameters around.bodies (running around) around.who
+
+-- what code means behind the unit that it costs
+unfoldable pub behind : Setting → Code → Meaning
+behind around code s =
+    act around.parameters (running around) around.who (map-Code Code Part (fold-Code Part (level around.parameters (running around) around.who)) (out-Code code)) s
 
 -- what a whole body means: what it returns is its value
 abbrev pub body_meaning : Setting → Code → Meaning

@@ -3,7 +3,7 @@ use Rattle.std.specs.Prelude.{ℕ, ℤ, pos, negsuc, nat_lt, if◌then◌else◌
 use Rattle.cs_ast.specs.declared.value.Value.{Value}
 use Rattle.cs_ast.specs.declared.value.Value.TheVariants as v
 use Rattle.cs_meaning.specs.declared.fault.Fault.TheVariants.{NullUse, IndexOutOfRange}
-use Rattle.cs_meaning.specs.Outcome.{Outcome, gives, faults, stuck, Meaning, found}
+use Rattle.cs_meaning.specs.Outcome.{gives, faults, stuck, Meaning, found}
 use Rattle.cs_meaning.specs.Kinds.{number_of, is_null, items_of, record_of}
 
 -- goes on with what is there

@@ -24,6 +24,10 @@ section_in _ = None
 abbrev pub section_of : Code → Option (Section (List Code))
 section_of code = section_in (out-Code code)
 
+-- the sections among these codes
+abbrev pub sections_of : List Code → List (Section (List Code))
+sections_of codes = filter_map section_of codes
+
 -- the statements of the first section with a constant that is the value, or else of the first with `default`
 abbrev pub selected : {A : Type 0} → Value → List (Section A) → Option A
 selected x sections = option_map (λ it. it.statements) (option_or (find (λ it. list_any (is_same x) it.constants) sections) (find (λ it. it.otherwise) sections))

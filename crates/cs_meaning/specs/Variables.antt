@@ -1,6 +1,5 @@
 -- Own fields and locals that change. An assignment stands where its value isn't used, and gives null.
 use Rattle.std.specs.Prelude.{ℕ, pos, nat_lt, is_some, if◌then◌else◌, codes, List, length, slice_get, slice_set, option_map, Option, Some, None, true, false}
-use Rattle.std.specs.List.{list_any}
 use Rattle.std.specs.Str.{bytes_eq}
 use Rattle.text_core.specs.Decimal.{i32_of}
 use Rattle.cs_ast.specs.declared.value.Value.{Value}
@@ -15,7 +14,7 @@ use Rattle.cs_ast.specs.declared.operators.BinaryOp.{BinaryOp}
 use Rattle.cs_ast.specs.declared.operators.BinaryOp.TheVariants as binary
 use Rattle.cs_ast.specs.declared.operators.StepOp.{StepOp}
 use Rattle.cs_meaning.specs.State.{with_field, State, state, over, with_local}
-use Rattle.cs_meaning.specs.Outcome.{gives, stuck, Meaning, and_then, found}
+use Rattle.cs_meaning.specs.Outcome.{stuck, Meaning, and_then, found}
 use Rattle.cs_meaning.specs.Kinds.{number_of, string_of}
 use Rattle.cs_meaning.specs.Operators.{of_numbers, of_values, operator_of}
 use Rattle.cs_meaning.specs.Reading.{given}
