@@ -99,11 +99,11 @@ module _ (around : Setting) where
   with_behind a positions values s = at_form (c.With a positions values) (Code-F.With a positions values) s (c.rolls-With a positions values)
       ∙ ap (λ (l : List Meaning). record_with (meaning around a) positions l s) (all_meanings around values)
 
-  pub part_behind : (a : Code) (at : ℕ) (s : State) → behind around (c.Part a at) s ≡ one_operand (meaning around a) (λ x. part_of x at) s
+  pub part_behind : (a : Code) (at : ℕ) (s : State) → behind around (c.Part a at) s ≡ one_operand (meaning around a) (part_of at) s
   unfolding meaning_by behind
   part_behind a at s = at_form (c.Part a at) (Code-F.Part a at) s (c.rolls-Part a at)
 
-  pub null_part_behind : (a : Code) (at : ℕ) (s : State) → behind around (c.NullPart a at) s ≡ one_operand (meaning around a) (λ x. part_or_null x at) s
+  pub null_part_behind : (a : Code) (at : ℕ) (s : State) → behind around (c.NullPart a at) s ≡ one_operand (meaning around a) (part_or_null at) s
   unfolding meaning_by behind
   null_part_behind a at s = at_form (c.NullPart a at) (Code-F.NullPart a at) s (c.rolls-NullPart a at)
 

@@ -100,11 +100,11 @@ module _ (around : Setting) where
   with_law a positions values s = at_variant (c.With a positions values) (Code-F.With a positions values) s (c.rolls-With a positions values)
       ∙ ap (λ (l : List Meaning). charged 1 s (λ s1. record_with (meaning around a) positions l s1)) (all_meanings around values)
 
-  pub part_law : (a : Code) (at : ℕ) (s : State) → meaning around (c.Part a at) s ≡ charged 1 s (λ s1. one_operand (meaning around a) (λ x. part_of x at) s1)
+  pub part_law : (a : Code) (at : ℕ) (s : State) → meaning around (c.Part a at) s ≡ charged 1 s (λ s1. one_operand (meaning around a) (part_of at) s1)
   unfolding meaning_by
   part_law a at s = at_variant (c.Part a at) (Code-F.Part a at) s (c.rolls-Part a at)
 
-  pub null_part_law : (a : Code) (at : ℕ) (s : State) → meaning around (c.NullPart a at) s ≡ charged 1 s (λ s1. one_operand (meaning around a) (λ x. part_or_null x at) s1)
+  pub null_part_law : (a : Code) (at : ℕ) (s : State) → meaning around (c.NullPart a at) s ≡ charged 1 s (λ s1. one_operand (meaning around a) (part_or_null at) s1)
   unfolding meaning_by
   null_part_law a at s = at_variant (c.NullPart a at) (Code-F.NullPart a at) s (c.rolls-NullPart a at)
 

@@ -1,11 +1,13 @@
 -- The parts of code and what they mean.
-use Rattle.std.proofs.Common.{◌≡◌, List, [], ◌∷◌, map, refl, ap, ◌∙◌}
+use Rattle.std.proofs.Common.{◌≡◌, List, [], ◌∷◌, map, refl, sym, ap, ◌∙◌}
 use Rattle.std.specs.Prelude.{option_map, find, cond, Option, Some, None, true, false}
 use Rattle.std.specs.Prelude.{Bool as Truth}
 use Rattle.std.specs.List.{list_any, cons_option}
 use Rattle.std.specs.Option.{option_or}
 use Rattle.cs_ast.specs.declared.value.Value.{Value}
 use Rattle.cs_ast.specs.declared.code.Code.{Code, out-Code}
+use Rattle.cs_ast.specs.declared.code.Code.TheVariants as c
+use Rattle.cs_ast.specs.declared.code.Code.TheViews.{roll-Code, roll-out-Code, out-roll-Code}
 use Rattle.cs_ast.specs.declared.code.Code.TheOpen.{Code-F}
 use Rattle.cs_ast.specs.declared.code.Code.TheFolds.{map-Code, fold-Code, fold_out-Code}
 use Rattle.cs_meaning.specs.Outcome.{Meaning}
@@ -66,3 +68,15 @@ module _ (around : Setting) where
 
   pub same_selected : (sections : List Code) (x : Value) → selected x (sections_in (map whole sections)) ≡ option_map (map (meaning around)) (selected x (sections_of sections))
   same_selected sections x = ap (selected x) (sections_whole sections) ∙ selected_over (map (meaning around)) x (sections_of sections)
+
+-- the section that a code is
+pub section_some : (constants : List Value) (otherwise : Truth) (statements : List Code) → section_of (c.Section constants otherwise statements) ≡ Some (section constants otherwise statements)
+section_some constants otherwise statements = ap section_in (ap out-Code (sym (c.rolls-Section constants otherwise statements)) ∙ out-roll-Code (Code-F.Section constants otherwise statements))
+
+-- no other code is one
+pub section_none : (code : Code) → ((constants : List Value) (otherwise : Truth) (statements : List Code) → code ≡ c.Section constants otherwise statements → ⊥) → section_of code ≡ None
+section_none code other = by (out-Code code) (roll-out-Code code)
+  where
+    by : (x : Code-F Code) → roll-Code x ≡ code → section_in x ≡ None
+    by (Code-F.Section constants otherwise statements) e = absurd (other constants otherwise statements (sym e ∙ c.rolls-Section constants otherwise statements))
+    by _ e = refl

@@ -5,11 +5,11 @@ use Rattle.cs_ast.specs.declared.value.Value.TheVariants as v
 use Rattle.cs_ast.specs.declared.code.LibraryMember.{LibraryMember}
 use Rattle.cs_ast.specs.declared.operators.BinaryOp.{BinaryOp}
 use Rattle.cs_ast.specs.declared.operators.BinaryOp.TheVariants as op
-use Rattle.cs_meaning.specs.Outcome.{gives, Meaning, and_then, chosen}
+use Rattle.cs_meaning.specs.Outcome.{gives, Meaning, and_then, chosen, found}
 use Rattle.cs_meaning.specs.Kinds.{truth_of, is_null, record_of}
 use Rattle.cs_meaning.specs.NewValues.{made, new_text, texts_of}
-use Rattle.cs_meaning.specs.Operators.{of_values, truth}
-use Rattle.cs_meaning.specs.Reading.{given, used, with_parts}
+use Rattle.cs_meaning.specs.Operators.{of_values}
+use Rattle.cs_meaning.specs.Reading.{used, with_parts}
 use Rattle.cs_meaning.specs.Scopes.{all_of}
 use Rattle.cs_meaning.specs.Library.{library}
 
@@ -23,7 +23,7 @@ two_operands a b next s = and_then (a s) (λ x s1. and_then (b s1) (λ y s2. nex
 
 -- an operand that has to be true or false
 abbrev pub truthful : Meaning → Meaning
-truthful a s = one_operand a (λ x. truth (λ b. b) (truth_of x)) s
+truthful a s = and_then (a s) (λ x s1. and_then (found (truth_of x) s1) (λ truth s2. gives (v.Bool truth) s2))
 
 -- an operator between two operands; `&&`, `||` and `??` evaluate the second only where they need it
 abbrev pub binary : BinaryOp → Meaning → Meaning → Meaning
@@ -47,7 +47,7 @@ new_record kind parts s = and_then (all_of parts s) (λ xs s1. made (v.Rec kind 
 -- a new record with other parts at these positions
 abbrev pub record_with : Meaning → List ℕ → List Meaning → Meaning
 record_with a positions values s =
-    and_then (a s) (λ x s1. used x (record_of x) (λ r s2. and_then (all_of values s2) (λ xs s3. given (with_parts positions xs r.1) (λ parts s4. made (v.Rec r.0 parts) s4) s3)) s1)
+    and_then (a s) (λ x s1. and_then (used x (record_of x) s1) (λ it s2. and_then (all_of values s2) (λ xs s3. and_then (found (with_parts positions xs it.1) s3) (λ parts s4. made (v.Rec it.0 parts) s4))))
 
 -- a member of the library, behind its target and arguments
 abbrev pub member_call : LibraryMember → List Meaning → Meaning

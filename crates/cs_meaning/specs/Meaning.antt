@@ -66,8 +66,8 @@ module _ (parameters : Fields) (run : Running) (who : ℕ) where
   act (Code-F.Binary op a b) s = binary op a.meaning b.meaning s
   act (Code-F.Conditional a b c) s = conditional a.meaning b.meaning c.meaning s
   act (Code-F.With a positions values) s = record_with a.meaning positions (meanings values) s
-  act (Code-F.Part a at) s = one_operand a.meaning (λ x. part_of x at) s
-  act (Code-F.NullPart a at) s = one_operand a.meaning (λ x. part_or_null x at) s
+  act (Code-F.Part a at) s = one_operand a.meaning (part_of at) s
+  act (Code-F.NullPart a at) s = one_operand a.meaning (part_or_null at) s
   act (Code-F.Index a b) s = two_operands a.meaning b.meaning indexed s
   act (Code-F.New kind parts) s = new_record kind (meanings parts) s
   act (Code-F.Library member arguments) s = member_call member (meanings arguments) s

@@ -5,7 +5,7 @@ use Rattle.cs_ast.specs.Texts.{text_of}
 use Rattle.cs_ast.specs.declared.value.Value.{Value}
 use Rattle.cs_ast.specs.declared.value.Value.TheVariants as v
 use Rattle.cs_meaning.specs.declared.fault.Fault.TheVariants.{ValueTooLarge}
-use Rattle.cs_meaning.specs.Outcome.{gives, faults, stuck, Meaning, charged}
+use Rattle.cs_meaning.specs.Outcome.{gives, faults, Meaning, and_then, charged, found}
 
 -- a new value costs one unit for each 64 of its size, and then it must not be too large
 abbrev pub made : Value → Meaning
@@ -13,8 +13,7 @@ made x s = charged (size_of x / 64) s (λ s1. if nat_lt 1048576 (size_of x) then
 
 -- a new text, where there is one
 abbrev pub new_text : Option (List ℕ) → Meaning
-new_text (Some text) s = made (v.Text text) s
-new_text None s = stuck
+new_text text s = and_then (found text s) (λ it s1. made (v.Text it) s1)
 
 -- the second text behind the first, where both are there
 abbrev pub appended : Option (List ℕ) → Option (List ℕ) → Option (List ℕ)

@@ -1,5 +1,5 @@
 -- What operators give of their operands. Sums, differences and products wrap at 32 bits.
-use Rattle.std.specs.Prelude.{ℤ, pos, negsuc, ◌+ℤ◌, ◌-ℤ◌, ◌*ℤ◌, int_lt, int_le, int_div, int_rem, ◌-◌, ◌^◌, ◌&&◌, ◌||◌, not, if◌then◌else◌, is_some, Option, Some, None, Bool}
+use Rattle.std.specs.Prelude.{ℤ, pos, negsuc, ◌+ℤ◌, ◌-ℤ◌, ◌*ℤ◌, int_lt, int_le, int_div, int_rem, ◌-◌, ◌^◌, ◌&&◌, ◌||◌, not, if◌then◌else◌, is_some, Option, Bool}
 use Rattle.std.specs.Int.{int_wrap, w32}
 use Rattle.std.specs.Ordering.{int_eq}
 use Rattle.cs_ast.specs.Texts.{text_of}
@@ -13,7 +13,7 @@ use Rattle.cs_ast.specs.declared.operators.StepOp.TheVariants as step
 use Rattle.cs_ast.specs.declared.operators.UnaryOp.{UnaryOp}
 use Rattle.cs_ast.specs.declared.operators.UnaryOp.TheVariants as unary
 use Rattle.cs_meaning.specs.declared.fault.Fault.TheVariants.{DivideByZero, Overflow}
-use Rattle.cs_meaning.specs.Outcome.{gives, faults, stuck, Meaning}
+use Rattle.cs_meaning.specs.Outcome.{gives, faults, stuck, Meaning, and_then, found}
 use Rattle.cs_meaning.specs.Kinds.{number_of, truth_of, string_of, is_null}
 use Rattle.cs_meaning.specs.Equality.{is_same}
 use Rattle.cs_meaning.specs.NewValues.{new_text, appended}
@@ -40,8 +40,7 @@ of_numbers _ x y s = stuck
 
 -- the same, where both are numbers
 abbrev pub between_numbers : BinaryOp → Option ℤ → Option ℤ → Meaning
-between_numbers op (Some x) (Some y) s = of_numbers op x y s
-between_numbers op _ _ s = stuck
+between_numbers op x y s = and_then (found x s) (λ m s1. and_then (found y s1) (λ n s2. of_numbers op m n s2))
 
 -- a text, or null, which may be the value of a text
 abbrev pub may_be_text : Value → Bool
@@ -58,21 +57,11 @@ of_values binary.NotEqual x y s = gives (v.Bool (not (is_same x y))) s
 of_values binary.Add x y s = added x y s
 of_values op x y s = between_numbers op (number_of x) (number_of y) s
 
--- a sign before a number
-abbrev pub signed : (ℤ → ℤ) → Option ℤ → Meaning
-signed change (Some n) s = gives (v.Int (change n)) s
-signed change None s = stuck
-
--- true or false, or the other of the two
-abbrev pub truth : (Bool → Bool) → Option Bool → Meaning
-truth change (Some b) s = gives (v.Bool (change b)) s
-truth change None s = stuck
-
 -- an operator before its operand
 abbrev pub of_value : UnaryOp → Value → Meaning
-of_value unary.Minus x s = signed (λ n. int_wrap w32 (pos 0 -ℤ n)) (number_of x) s
-of_value unary.Plus x s = signed (λ n. n) (number_of x) s
-of_value unary.Not x s = truth not (truth_of x) s
+of_value unary.Minus x s = and_then (found (number_of x) s) (λ n s1. gives (v.Int (int_wrap w32 (pos 0 -ℤ n))) s1)
+of_value unary.Plus x s = and_then (found (number_of x) s) (λ n s1. gives (v.Int n) s1)
+of_value unary.Not x s = and_then (found (truth_of x) s) (λ truth s1. gives (v.Bool (not truth)) s1)
 
 -- a text in the type of a text, or null
 abbrev pub cast : CastOp → Value → Meaning

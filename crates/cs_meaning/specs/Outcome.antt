@@ -46,8 +46,8 @@ abbrev pub chosen : {A : Type 0} → Option Truth → Outcome A → Outcome A �
 chosen (Some truth) one other = if truth then one else other
 chosen None one other = stuck
 
--- what a name stands for
-abbrev pub found : Option Value → Meaning
+-- what is there
+abbrev pub found : {A : Type 0} → Option A → State → Outcome A
 found (Some x) s = gives x s
 found None s = stuck
 

@@ -32,7 +32,7 @@ for_loop start test step body s = scoped (λ s1. and_then (if_there start s1) (�
 
 -- the list is taken once
 abbrev pub for_each : Meaning → Meaning → Meaning
-for_each list body s = and_then (list s) (λ x s1. used x (items_of x) (λ items s2. each_of items body s2) s1)
+for_each list body s = and_then (list s) (λ x s1. and_then (used x (items_of x) s1) (λ items s2. each_of items body s2))
 
 -- the statements of a section, in a scope of their own; nothing where no section is meant
 abbrev pub section_run : Option (List Meaning) → Meaning

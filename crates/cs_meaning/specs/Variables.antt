@@ -17,7 +17,6 @@ use Rattle.cs_meaning.specs.State.{with_field, State, state, over, with_local}
 use Rattle.cs_meaning.specs.Outcome.{stuck, Meaning, and_then, found}
 use Rattle.cs_meaning.specs.Kinds.{number_of, string_of}
 use Rattle.cs_meaning.specs.Operators.{of_numbers, of_values, operator_of}
-use Rattle.cs_meaning.specs.Reading.{given}
 use Rattle.cs_meaning.specs.Scopes.{nothing}
 
 -- the value that a variable has
@@ -46,7 +45,7 @@ assigned who target (Some op) e s = and_then (found (value_at who target s) s) (
 
 -- `x++` or `x--`: one more, or one less
 abbrev pub stepped : ℕ → Variable → StepOp → Meaning
-stepped who target op s = and_then (found (value_at who target s) s) (λ x s1. given (number_of x) (λ n s2. and_then (of_numbers (operator_of op) n (pos 1) s2) (λ y s3. put who target y s3)) s1)
+stepped who target op s = and_then (found (value_at who target s) s) (λ x s1. and_then (found (number_of x) s1) (λ n s2. and_then (of_numbers (operator_of op) n (pos 1) s2) (λ y s3. put who target y s3)))
 
 -- a new local with the value of an expression
 abbrev pub declared_as : Meaning → Meaning
@@ -65,4 +64,4 @@ put_if_there who at None s = nothing s
 
 -- a bound field and the text of an event, which is the first local
 abbrev pub bound : ℕ → ℕ → BindKind → Meaning
-bound who at kind s = and_then (found (slice_get s.locals 0) s) (λ x s1. given (string_of x) (λ text s2. put_if_there who at (readable kind text) s2) s1)
+bound who at kind s = and_then (found (slice_get s.locals 0) s) (λ x s1. and_then (found (string_of x) s1) (λ text s2. put_if_there who at (readable kind text) s2))
