@@ -1,5 +1,6 @@
 -- Statements one after another, scopes, and what leaves loops and bodies.
-use Rattle.std.specs.Prelude.{ℕ, zero, suc, ◌+◌, List, [], ◌∷◌, length, Option, Some, None}
+use Rattle.std.specs.Prelude.{ℕ, zero, suc, ◌+◌, if◌then◌else◌, List, [], ◌∷◌, length, Option, Some, None, true, false}
+use Rattle.std.specs.Prelude.{Bool as Truth}
 use Rattle.cs_ast.specs.declared.value.Value.{Value}
 use Rattle.cs_ast.specs.declared.value.Value.TheVariants as v
 use Rattle.cs_meaning.specs.declared.fault.Fault.TheVariants.{FuelSpent}
@@ -30,14 +31,18 @@ in_order (one ∷ others) s = and_then (one s) (λ x s1. in_order others s1)
 abbrev pub scoped : Meaning → Meaning
 scoped run s = in_state (cut (length s.locals)) (run s)
 
--- a turn of a loop came to its end, or to `continue`, and it goes on; or the loop is left
+-- how a turn of a loop ends: it goes on behind its end and behind `continue`, and does not behind `break`
+abbrev pub turn_end : Outcome Value → Outcome Truth
+turn_end (gives x s) = gives true s
+turn_end (breaks s) = gives false s
+turn_end (continues s) = gives true s
+turn_end (returns x s) = returns x s
+turn_end (faults fault s) = faults fault s
+turn_end stuck = stuck
+
+-- what is next behind a turn
 abbrev pub behind_turn : Outcome Value → Meaning → Outcome Value
-behind_turn (gives x s) next = next s
-behind_turn (breaks s) next = nothing s
-behind_turn (continues s) next = next s
-behind_turn (returns x s) next = returns x s
-behind_turn (faults fault s) next = faults fault s
-behind_turn stuck next = stuck
+behind_turn outcome next = and_then (turn_end outcome) (λ goes_on s. if goes_on then next s else nothing s)
 
 -- at most so many turns of a loop: a test, a body in a scope of its own, and a step
 unfoldable pub turns : ℕ → Meaning → Meaning → Meaning → Meaning
