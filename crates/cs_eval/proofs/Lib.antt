@@ -1,0 +1,5 @@
+pub mod TextLemmas
+pub mod ArgumentLemmas
+pub mod PartLemmas
+pub mod OutcomeLemmas
+pub mod PaidLemmas

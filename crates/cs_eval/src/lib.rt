@@ -4,15 +4,28 @@
 //! left, or the same fault at the same unit. It does not say that memory is found, nor what the fields hold where it is not.
 #![tactic(auto)]
 
+mod calls;
+mod charging;
 mod copying;
+mod ending;
 mod evaluator;
+mod exit;
+mod expressions;
+mod kinds;
+mod library;
+mod loops;
 mod operators;
 mod owners;
 mod progress;
+mod reading;
 mod run;
+mod sections;
+mod statements;
+mod store;
 #[cfg(test)]
 mod tests;
-mod trap;
+mod texts;
+mod variables;
 
 pub use cs_meaning::{Fault, Fuel};
 pub use owners::Owners;

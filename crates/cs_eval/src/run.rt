@@ -2,13 +2,13 @@
 ghost use Rattle.std.specs.Prelude.{◌≡◌, []};
 ghost use Rattle.cs_meaning.specs.State.{state};
 ghost use Rattle.cs_meaning.specs.Outcome.{IsDefined};
-ghost use Rattle.cs_meaning.specs.Meaning.{meaning, setting};
+ghost use Rattle.cs_meaning.specs.Meaning.{body_meaning, setting};
 ghost use Rattle.cs_eval.specs.Run.{Means};
 
-use crate::evaluator::eval;
+use crate::evaluator::evaluate;
+use crate::exit::Exit;
 use crate::owners::Owners;
 use crate::progress::{Around, Progress};
-use crate::trap::Trap;
 use cs_ast::{Bodies, Code, Value};
 use cs_meaning::{Fault, Fuel};
 use std::alloc::Global;
@@ -27,7 +27,7 @@ pub struct Ran {
     pub receivers: Vec<u32>,
 }
 
-/// Runs code of the instance `who`. After a fault the owners hold what had been set.
+/// Runs a whole body of the instance `who`. After a fault the owners hold what had been set.
 pub fn run_code<O: Owners>(
     alloc: Global,
     code: &Code,
@@ -38,10 +38,10 @@ pub fn run_code<O: Owners>(
     fuel: &mut Fuel,
 ) -> Result<Ran, Fault>
     requires { IsDefined
-        (meaning (setting who (O.parameters owners.old) bodies.now fuel.old.depth) code.now
+        (body_meaning (setting who (O.parameters owners.old) bodies.now fuel.old.depth) code.now
         (state locals.old.values.items (O.fields owners.old) [] fuel.old.left)) }
     ensures means { Means result locals.new.values.items (O.fields owners.new) fuel.new.left
-        (meaning (setting who (O.parameters owners.old) bodies.now fuel.old.depth) code.now
+        (body_meaning (setting who (O.parameters owners.old) bodies.now fuel.old.depth) code.now
         (state locals.old.values.items (O.fields owners.old) [] fuel.old.left)) }
     ensures depth { fuel.new.depth ≡ fuel.old.depth }
     ensures parameters { O.parameters owners.new ≡ O.parameters owners.old }
@@ -58,7 +58,7 @@ pub fn run_code<O: Owners>(
         receivers: Vec::new(alloc),
         left: fuel.left,
     };
-    let outcome = eval(&around, code, &mut progress, owners);
+    let outcome = evaluate(&around, code, &mut progress, owners);
     locals.values = progress.locals;
     fuel.left = progress.left;
     match outcome {
@@ -66,7 +66,13 @@ pub fn run_code<O: Owners>(
             value,
             receivers: progress.receivers,
         }),
-        Err(Trap::Fault(fault)) => Err(fault),
-        Err(Trap::Stuck) => unreachable!(),
+        Err(Exit::Return(value)) => Ok(Ran {
+            value,
+            receivers: progress.receivers,
+        }),
+        Err(Exit::Fault(fault)) => Err(fault),
+        Err(Exit::Break) => unreachable!(),
+        Err(Exit::Continue) => unreachable!(),
+        Err(Exit::Stuck) => unreachable!(),
     }
 }

@@ -1,45 +1,51 @@
-// Code of the first forms over two fields: what the fields hold then, and the units left, by hand.
-ghost use Rattle.std.specs.Prelude.{◌≡◌, ◌<◌, [], ◌∷◌, IfOk, IsTrue};
-ghost use Rattle.cs_ast.specs.declared.value.Value.TheVariants.{Int};
-ghost use Rattle.cs_meaning.specs.FirstForms.{IsNumber, IsStatement, joins_numbers};
-
-use crate::{Fault, Fuel, Locals, Owners, run_code};
-use cs_ast::{AssignOp, BinaryOp, Bodies, Code, StepOp, Value, Variable};
+// Code of all forms, run by the evaluator itself, which asks nothing of it. Values, faults and units by hand.
+use crate::evaluator::evaluate;
+use crate::exit::Exit;
+use crate::progress::{Around, Progress};
+use crate::{Fault, Owners};
+use cs_ast::{
+    AssignOp, BinaryOp, Bodies, Code, LibraryMember, StepOp, Value, Variable, same,
+};
 use sqlite_items::{Boxed, Items};
 use std::alloc::Global;
 use std::process::Abort;
 use std::test::Fail;
-use text_core::Oom;
+use text_core::{Oom, Txt};
 
-/// The fields of instance 1, and no parameters.
+type Made = Result<Code, Oom>;
+
+/// The instances 1 and 2, each with one field.
 #[derive(Drop)]
 struct Held {
-    fields: Items<Value>,
+    first: Value,
+    second: Value,
 }
 
 impl Owners for Held {
-    ghost use Rattle.std.specs.Prelude.{◌==◌, if◌then◌else◌, slice_get, None};
+    ghost use Rattle.std.specs.Prelude.{◌==◌, ◌&&◌, if◌then◌else◌, Some, None};
 
     ghost Rest = { Unit {0} };
 
-    ghost fields = { λ it who at. if who == 1 then slice_get it.fields at else None };
+    ghost fields = { λ it who at. if who == 1 && at == 0 then Some it.first else if who == 2 && at == 0 then Some it.second else None };
 
     ghost parameters = { λ it who at. None };
 
     ghost rest = { λ it. tt };
 
     fn field(&self, who: u32, at: u32) -> Option<&Value> {
-        if who != 1 {
-            return None;
+        match (who, at) {
+            (1, 0) => Some(&self.first),
+            (2, 0) => Some(&self.second),
+            _ => None,
         }
-        self.fields.get(at as usize)
     }
 
     fn set(&mut self, who: u32, at: u32, value: Value) -> bool {
-        if who != 1 || self.fields.len() <= at as usize {
-            return false;
+        match (who, at) {
+            (1, 0) => self.first = value,
+            (2, 0) => self.second = value,
+            _ => return false,
         }
-        self.fields.set(at as usize, value);
         true
     }
 
@@ -48,225 +54,325 @@ impl Owners for Held {
     }
 }
 
-fn with_numbers(alloc: Global, n: i32, m: i32) -> Result<Held, Oom>
-    ensures { IfOk result (λ owners. owners.fields ≡ Int n ∷ Int m ∷ []) }
-{
-    let mut fields = Items::new(alloc);
-    fields.push(Value::Int(n))?;
-    fields.push(Value::Int(m))?;
-    Ok(Held { fields })
+fn codes<const N: usize>(alloc: Global, codes: [Code; N]) -> Result<Items<Code>, Oom> {
+    Ok(Items::from_vec(Vec::from_array(alloc, codes)?))
 }
 
-/// Whether the operator joins numbers so far.
-fn is_joiner(op: BinaryOp) -> bool
-    ensures { result ≡ joins_numbers op }
-{
-    matches!(op, BinaryOp::Add | BinaryOp::Subtract | BinaryOp::Multiply)
+fn text(alloc: Global, said: &str) -> Result<Value, Oom> {
+    Ok(Value::Text(Txt::from_str(alloc, said)?))
 }
 
-/// A literal number, or the first field.
-fn operand(literal: Option<i32>) -> Code
-    ensures { IsNumber 2 result }
-{
-    match literal {
-        Some(n) => Code::Int(n),
-        None => Code::Field(0),
+fn literal(alloc: Global, said: &str) -> Made {
+    Ok(Code::Text(Txt::from_str(alloc, said)?))
+}
+
+fn binary(alloc: Global, op: BinaryOp, a: Code, b: Code) -> Made {
+    Ok(Code::Binary(op, Boxed::new(alloc, a)?, Boxed::new(alloc, b)?))
+}
+
+fn perform(alloc: Global, e: Code) -> Made {
+    Ok(Code::Perform(Boxed::new(alloc, e)?))
+}
+
+fn assign(alloc: Global, target: Variable, op: AssignOp, e: Code) -> Made {
+    let assignment = Code::Assign(target, op, Boxed::new(alloc, e)?);
+    perform(alloc, assignment)
+}
+
+fn declare(alloc: Global, e: Code) -> Made {
+    Ok(Code::Declare(Boxed::new(alloc, e)?))
+}
+
+fn block<const N: usize>(alloc: Global, statements: [Code; N]) -> Made {
+    Ok(Code::Block(codes(alloc, statements)?))
+}
+
+fn while_true(alloc: Global, body: Code) -> Made {
+    let test = Boxed::new(alloc, Code::Bool(true))?;
+    Ok(Code::While(test, Boxed::new(alloc, body)?))
+}
+
+fn returned(alloc: Global, e: Code) -> Made {
+    Ok(Code::Return(Some(Boxed::new(alloc, e)?)))
+}
+
+fn library<const N: usize>(alloc: Global, member: LibraryMember, arguments: [Code; N]) -> Made {
+    Ok(Code::Library(member, codes(alloc, arguments)?))
+}
+
+/// `for (int i = 0; i < limit; i++)`, where i is the first local.
+fn counted(alloc: Global, limit: i32, body: Code) -> Made {
+    let start = declare(alloc, Code::Int(0))?;
+    let test = binary(alloc, BinaryOp::Less, Code::Local(0), Code::Int(limit))?;
+    let step = Code::Step(Variable::Local(0), StepOp::Increment);
+    Ok(Code::For(
+        Some(Boxed::new(alloc, start)?),
+        Some(Boxed::new(alloc, test)?),
+        Some(Boxed::new(alloc, step)?),
+        Boxed::new(alloc, body)?,
+    ))
+}
+
+/// `ImmutableList<int>.Empty.Add(1).Add(2).Add(3)`
+fn one_two_three(alloc: Global) -> Made {
+    let mut list = library(alloc, LibraryMember::EmptyList, [])?;
+    for n in 1..4 {
+        list = library(alloc, LibraryMember::Add, [list, Code::Int(n)])?;
     }
+    Ok(list)
 }
 
-fn joined(alloc: Global, op: BinaryOp, a: Code, b: Code) -> Result<Code, Oom>
-    requires joins { IsTrue (joins_numbers op) }
-    requires a { IsNumber 2 a }
-    requires b { IsNumber 2 b }
-    ensures { IfOk result (λ code. IsNumber 2 code) }
-{
-    let a = Boxed::new(alloc, a)?;
-    let b = Boxed::new(alloc, b)?;
-    Ok(Code::Binary(op, a, b))
+/// What came of a run: a value, or a fault; the fields of both instances; the units left.
+#[derive(Drop)]
+struct End {
+    outcome: Result<Value, Fault>,
+    owners: Held,
+    progress: Progress,
 }
 
-fn assigned(alloc: Global, at: u32, value: Code) -> Result<Code, Oom>
-    requires there { at < 2 }
-    requires number { IsNumber 2 value }
-    ensures { IfOk result (λ code. IsStatement 2 code) }
-{
-    let value = Boxed::new(alloc, value)?;
-    let assignment = Code::Assign(Variable::Field(at), AssignOp::Set, value);
-    Ok(Code::Perform(Boxed::new(alloc, assignment)?))
-}
-
-fn stepped(alloc: Global, at: u32, op: StepOp) -> Result<Code, Oom>
-    requires { at < 2 }
-    ensures { IfOk result (λ code. IsStatement 2 code) }
-{
-    let step = Code::Step(Variable::Field(at), op);
-    Ok(Code::Perform(Boxed::new(alloc, step)?))
-}
-
-/// A block of these two statements.
-fn block(alloc: Global, first: Code, second: Code) -> Result<Code, Oom>
-    requires first { IsStatement 2 first }
-    requires second { IsStatement 2 second }
-    ensures { IfOk result (λ code. IsStatement 2 code) }
-{
-    let mut statements = Items::new(alloc);
-    statements.push(first)?;
-    statements.push(second)?;
-    Ok(Code::Block(statements))
-}
-
-/// `n = a op b;`
-fn assignment(alloc: Global, op: BinaryOp, a: Option<i32>, b: Option<i32>) -> Result<Code, Oom>
-    requires { IsTrue (joins_numbers op) }
-    ensures { IfOk result (λ code. IsStatement 2 code) }
-{
-    let value = joined(alloc, op, operand(a), operand(b))?;
-    assigned(alloc, 0, value)
-}
-
-/// `m = 2 * (n - 3);`
-fn nested(alloc: Global) -> Result<Code, Oom>
-    ensures { IfOk result (λ code. IsStatement 2 code) }
-{
-    let difference = joined(alloc, BinaryOp::Subtract, operand(None), operand(Some(3)))?;
-    let product = joined(alloc, BinaryOp::Multiply, operand(Some(2)), difference)?;
-    assigned(alloc, 1, product)
-}
-
-/// `{ n++; m--; }`
-fn steps_in_block(alloc: Global) -> Result<Code, Oom>
-    ensures { IfOk result (λ code. IsStatement 2 code) }
-{
-    let first = stepped(alloc, 0, StepOp::Increment)?;
-    let second = stepped(alloc, 1, StepOp::Decrement)?;
-    block(alloc, first, second)
-}
-
-/// The value of a field of instance 1, which is a number.
-fn number_at<O: Owners>(rt: &impl Abort, owners: &O, at: u32) -> i32 {
-    match owners.field(1, at) {
-        Some(Value::Int(n)) => *n,
-        _ => panic!(rt; "field {at} is no number"),
-    }
-}
-
-/// What a run ended with: its fault if there was one, the two fields, and the units left.
-type End = (Option<Fault>, [i32; 2], u32);
-
-fn run(rt: &impl Abort, alloc: Global, code: &Code, fields: [i32; 2], left: u32) -> Result<End, Oom>
-    requires { IsStatement 2 code.now }
-{
-    let [n, m] = fields;
-    let mut owners = with_numbers(alloc, n, m)?;
-    let mut locals = Locals {
-        values: Vec::new(alloc),
-    };
-    let mut fuel = Fuel { left, depth: 1 };
-    let ran = run_code(
+fn run(rt: &impl Abort, alloc: Global, code: &Code, bodies: &Bodies) -> End {
+    let around = Around {
         alloc,
-        code,
-        &Bodies::new(alloc),
-        1,
-        &mut locals,
-        &mut owners,
-        &mut fuel,
-    );
-    let fault = match ran {
-        Ok(ran) => {
-            assert!(rt; matches!(&ran.value, Value::Null) && ran.receivers.is_empty());
-            None
-        }
-        Err(fault) => Some(fault),
+        bodies,
+        who: 1,
+        depth: 1,
     };
-    let fields = [number_at(rt, &owners, 0), number_at(rt, &owners, 1)];
-    Ok((fault, fields, fuel.left))
+    let mut progress = Progress {
+        locals: Vec::new(alloc),
+        receivers: Vec::new(alloc),
+        left: 1_000_000,
+    };
+    let mut owners = Held {
+        first: Value::Int(1),
+        second: Value::Int(1),
+    };
+    let outcome = match evaluate(&around, code, &mut progress, &mut owners) {
+        Ok(value) => Ok(value),
+        Err(Exit::Return(value)) => Ok(value),
+        Err(Exit::Fault(fault)) => Err(fault),
+        Err(exit) => panic!(rt; "{exit:?}"),
+    };
+    End {
+        outcome,
+        owners,
+        progress,
+    }
 }
 
-/// Runs `n = a op b;`, which costs five units, and compares `n`.
-fn assigns_row(
+/// Compares the value or the fault, and what is left of a million units.
+fn ends(
     rt: &impl Abort,
     alloc: Global,
-    row: (BinaryOp, Option<i32>, Option<i32>, i32, i32),
+    code: Code,
+    want: Result<Value, Fault>,
+    left: u32,
 ) -> Result<(), Oom> {
-    let (op, a, b, before, after) = row;
-    assert!(rt; is_joiner(op));
-    let code = assignment(alloc, op, a, b)?;
-    let end = run(rt, alloc, &code, [before, 7], 1000)?;
-    assert!(rt; end == (None, [after, 7], 995), "{op:?} from {before}");
-    Ok(())
-}
-
-#[test]
-fn assigns(rt: HostRuntime) -> Result<(), Fail> {
-    for row in [
-        (BinaryOp::Add, None, Some(1), 0, 1),
-        (BinaryOp::Add, None, Some(1), i32::MAX, i32::MIN),
-        (BinaryOp::Subtract, None, Some(1), 0, -1),
-        (BinaryOp::Subtract, None, Some(1), i32::MIN, i32::MAX),
-        (BinaryOp::Subtract, Some(1), None, 5, -4),
-        (BinaryOp::Multiply, None, Some(-3), 5, -15),
-        (BinaryOp::Multiply, Some(65536), None, 65536, 0),
-        (BinaryOp::Multiply, None, None, 46341, -2147479015),
-    ] {
-        assigns_row(&rt, rt.alloc(), row)?;
+    let end = run(rt, alloc, &code, &Bodies::new(alloc));
+    match (&end.outcome, &want) {
+        (Ok(value), Ok(want)) => assert!(rt; same(value, want), "{value:?}"),
+        (Err(fault), Err(want)) => assert!(rt; fault == want, "{fault:?}"),
+        (outcome, _) => panic!(rt; "{outcome:?}"),
     }
+    assert!(rt; end.progress.left == left, "{} units left", end.progress.left);
     Ok(())
 }
 
-/// Runs `n++;` or `n--;`, which costs two units, and compares `n`.
-fn steps_row(rt: &impl Abort, alloc: Global, row: (StepOp, i32, i32)) -> Result<(), Oom> {
-    let (op, before, after) = row;
-    let code = stepped(alloc, 0, op)?;
-    let end = run(rt, alloc, &code, [before, 7], 1000)?;
-    assert!(rt; end == (None, [after, 7], 998), "{op:?} from {before}");
-    Ok(())
-}
-
+/// `{ for (int i = 0; i < limit; i++) { } }` costs 7 + 5 * limit.
 #[test]
-fn steps(rt: HostRuntime) -> Result<(), Fail> {
-    for row in [
-        (StepOp::Increment, 0, 1),
-        (StepOp::Increment, i32::MAX, i32::MIN),
-        (StepOp::Decrement, 0, -1),
-        (StepOp::Decrement, i32::MIN, i32::MAX),
-    ] {
-        steps_row(&rt, rt.alloc(), row)?;
-    }
-    Ok(())
-}
-
-/// `m = 2 * (n - 3);` costs seven units.
-#[test]
-fn nests(rt: HostRuntime) -> Result<(), Fail> {
+fn loops_cost_units(rt: HostRuntime) -> Result<(), Fail> {
     let alloc = rt.alloc();
-    let code = nested(alloc)?;
-    let end = run(&rt, alloc, &code, [10, 0], 1000)?;
-    assert!(rt; end == (None, [10, 14], 993));
-    Ok(())
-}
-
-/// Runs `{ n++; m--; }` from zeros.
-fn spends_row(rt: &impl Abort, alloc: Global, left: u32, want: End) -> Result<(), Oom> {
-    let code = steps_in_block(alloc)?;
-    let end = run(rt, alloc, &code, [0, 0], left)?;
-    assert!(rt; end == want, "{left} units");
-    Ok(())
-}
-
-/// The block costs one unit, and each statement two.
-#[test]
-fn spends_units(rt: HostRuntime) -> Result<(), Fail> {
-    let spent = Some(Fault::FuelSpent);
-    for (left, want) in [
-        (0, (spent, [0, 0], 0)),
-        (1, (spent, [0, 0], 0)),
-        (2, (spent, [0, 0], 0)),
-        (3, (spent, [1, 0], 0)),
-        (4, (spent, [1, 0], 0)),
-        (5, (None, [1, -1], 0)),
-        (6, (None, [1, -1], 1)),
+    for (limit, want, left) in [
+        (0, Ok(Value::Null), 999_993),
+        (3, Ok(Value::Null), 999_978),
+        (199_998, Ok(Value::Null), 3),
+        (199_999, Err(Fault::FuelSpent), 0),
     ] {
-        spends_row(&rt, rt.alloc(), left, want)?;
+        let turns = counted(alloc, limit, block(alloc, [])?)?;
+        ends(&rt, alloc, block(alloc, [turns])?, want, left)?;
+    }
+    let endless = while_true(alloc, block(alloc, [])?)?;
+    ends(&rt, alloc, endless, Err(Fault::FuelSpent), 0)?;
+    Ok(())
+}
+
+/// The list costs seven units, each member one and its arguments.
+#[test]
+fn lists_have_places(rt: HostRuntime) -> Result<(), Fail> {
+    use LibraryMember::{Count, Insert, RemoveAt, SetItem};
+    let alloc = rt.alloc();
+    let past = Err(Fault::IndexOutOfRange);
+    let removed = library(alloc, RemoveAt, [one_two_three(alloc)?, Code::Int(3)])?;
+    ends(&rt, alloc, removed, past, 999_991)?;
+    let inserted = library(alloc, Insert, [one_two_three(alloc)?, Code::Int(3), Code::Int(9)])?;
+    let count = library(alloc, Count, [inserted])?;
+    ends(&rt, alloc, count, Ok(Value::Int(4)), 999_989)?;
+    let set = library(alloc, SetItem, [one_two_three(alloc)?, Code::Int(0), Code::Int(9)])?;
+    let first = Code::Index(Boxed::new(alloc, set)?, Boxed::new(alloc, Code::Int(0))?);
+    ends(&rt, alloc, first, Ok(Value::Int(9)), 999_988)?;
+    Ok(())
+}
+
+#[test]
+fn numbers_fault(rt: HostRuntime) -> Result<(), Fail> {
+    let alloc = rt.alloc();
+    for (op, x, y, want) in [
+        (BinaryOp::Divide, 7, 0, Err(Fault::DivideByZero)),
+        (BinaryOp::Remainder, 7, 0, Err(Fault::DivideByZero)),
+        (BinaryOp::Divide, i32::MIN, -1, Err(Fault::Overflow)),
+        (BinaryOp::Remainder, i32::MIN, -1, Err(Fault::Overflow)),
+        (BinaryOp::Divide, -7, 2, Ok(Value::Int(-3))),
+        (BinaryOp::Remainder, -7, 2, Ok(Value::Int(-1))),
+        (BinaryOp::Add, i32::MAX, 1, Ok(Value::Int(i32::MIN))),
+        (BinaryOp::LessOrEqual, 2, 2, Ok(Value::Bool(true))),
+        (BinaryOp::NotEqual, 2, 2, Ok(Value::Bool(false))),
+    ] {
+        let code = binary(alloc, op, Code::Int(x), Code::Int(y))?;
+        ends(&rt, alloc, code, want, 999_997)?;
+    }
+    let null = library(alloc, LibraryMember::Length, [Code::Null])?;
+    ends(&rt, alloc, null, Err(Fault::NullUse), 999_998)?;
+    Ok(())
+}
+
+#[test]
+fn texts_are_joined(rt: HostRuntime) -> Result<(), Fail> {
+    let alloc = rt.alloc();
+    for (x, y, want) in [
+        (Code::Null, Code::Null, ""),
+        (Code::Null, Code::Int(-1), "-1"),
+        (Code::Bool(true), literal(alloc, "a")?, "Truea"),
+        (literal(alloc, "a")?, Code::Bool(false), "aFalse"),
+        (literal(alloc, "a")?, Code::Null, "a"),
+    ] {
+        let code = binary(alloc, BinaryOp::Add, x, y)?;
+        ends(&rt, alloc, code, Ok(text(alloc, want)?), 999_997)?;
+    }
+    Ok(())
+}
+
+/// A text that is doubled again and again, from 64 bytes on, is too large behind 1,048,575.
+#[test]
+fn values_are_charged_and_checked(rt: HostRuntime) -> Result<(), Fail> {
+    let alloc = rt.alloc();
+    let said = "0123456789abcdef0123456789abcdef0123456789abcdef0123456789abcdef";
+    let start = declare(alloc, literal(alloc, said)?)?;
+    let doubled = assign(alloc, Variable::Local(0), AssignOp::Add, Code::Local(0))?;
+    let endless = while_true(alloc, doubled)?;
+    let code = block(alloc, [start, endless])?;
+    // The block, the declaration, the literal and the loop; 14 turns of four units; the new texts of 128 to 1,048,576 bytes.
+    let left = 1_000_000 - 4 - 14 * 4 - (2 + 4 + 8 + 16 + 32 + 64 + 128 + 256 + 512 + 1024 + 2048 + 4096 + 8192 + 16384);
+    ends(&rt, alloc, code, Err(Fault::ValueTooLarge), left)?;
+    Ok(())
+}
+
+/// The method 7 calls itself; the method 8 sets the field to 10 and gives 5.
+fn methods(alloc: Global) -> Result<Bodies, Oom> {
+    let mut bodies = Bodies::new(alloc);
+    let own = Code::Call(7, codes(alloc, [])?);
+    bodies.set(7, block(alloc, [perform(alloc, own)?])?)?;
+    let sets = assign(alloc, Variable::Field(0), AssignOp::Set, Code::Int(10))?;
+    bodies.set(8, block(alloc, [sets, returned(alloc, Code::Int(5))?])?)?;
+    Ok(bodies)
+}
+
+/// The first call costs one unit, and each of the 99 bodies that it leads to three.
+#[test]
+fn calls_are_not_too_deep(rt: HostRuntime) -> Result<(), Fail> {
+    let alloc = rt.alloc();
+    let code = Code::Call(7, codes(alloc, [])?);
+    let end = run(&rt, alloc, &code, &methods(alloc)?);
+    assert!(rt; matches!(&end.outcome, Err(Fault::CallDepth)));
+    assert!(rt; end.progress.left == 1_000_000 - 1 - 99 * 3, "{}", end.progress.left);
+    Ok(())
+}
+
+/// `n - M()` and `n += M()` read n before M changes it.
+#[test]
+fn operands_go_from_left_to_right(rt: HostRuntime) -> Result<(), Fail> {
+    let alloc = rt.alloc();
+    let bodies = methods(alloc)?;
+    let called = Code::Call(8, codes(alloc, [])?);
+    let code = binary(alloc, BinaryOp::Subtract, Code::Field(0), called)?;
+    let end = run(&rt, alloc, &code, &bodies);
+    assert!(rt; matches!(&end.outcome, Ok(Value::Int(-4))));
+    let called = Code::Call(8, codes(alloc, [])?);
+    let code = assign(alloc, Variable::Field(0), AssignOp::Add, called)?;
+    let end = run(&rt, alloc, &code, &bodies);
+    assert!(rt; matches!(&end.owners.first, Value::Int(6)));
+    Ok(())
+}
+
+/// A callback of instance 2 that sets its field to what it captured, and not to its argument.
+#[test]
+fn callbacks_run_in_their_receivers(rt: HostRuntime) -> Result<(), Fail> {
+    let alloc = rt.alloc();
+    let mut bodies = Bodies::new(alloc);
+    bodies.set(3, assign(alloc, Variable::Field(0), AssignOp::Set, Code::Local(0))?)?;
+    let mut captures = Items::new(alloc);
+    captures.push(Value::Int(40))?;
+    let callback = Value::Callback {
+        who: 2,
+        place: 3,
+        captures,
+    };
+    let invoke = Code::Invoke(
+        Boxed::new(alloc, Code::Local(0))?,
+        Some(Boxed::new(alloc, Code::Int(9))?),
+    );
+    let around = Around {
+        alloc,
+        bodies: &bodies,
+        who: 1,
+        depth: 1,
+    };
+    let mut progress = Progress {
+        locals: Vec::new(alloc),
+        receivers: Vec::new(alloc),
+        left: 100,
+    };
+    progress.locals.push(callback)?;
+    let mut owners = Held {
+        first: Value::Int(1),
+        second: Value::Int(1),
+    };
+    let outcome = evaluate(&around, &invoke, &mut progress, &mut owners);
+    assert!(rt; matches!(&outcome, Ok(Value::Null)));
+    assert!(rt; matches!((&owners.first, &owners.second), (Value::Int(1), Value::Int(40))));
+    assert!(rt; progress.receivers.as_slice() == [2].as_slice());
+    assert!(rt; progress.locals.len() == 1 && progress.left == 94, "{}", progress.left);
+    Ok(())
+}
+
+/// A `break` ends the inner loop alone.
+#[test]
+fn breaks_end_one_loop(rt: HostRuntime) -> Result<(), Fail> {
+    let alloc = rt.alloc();
+    let add = perform(alloc, Code::Step(Variable::Field(0), StepOp::Increment))?;
+    let inner = while_true(alloc, block(alloc, [add, Code::Break])?)?;
+    let code = counted(alloc, 3, inner)?;
+    let end = run(&rt, alloc, &code, &Bodies::new(alloc));
+    assert!(rt; matches!(&end.outcome, Ok(Value::Null)));
+    assert!(rt; matches!(&end.owners.first, Value::Int(4)));
+    assert!(rt; end.progress.locals.is_empty());
+    Ok(())
+}
+
+/// `switch (2) { default: return 7; case 1: case 2: return 8; }`, and of 5.
+#[test]
+fn sections_are_selected(rt: HostRuntime) -> Result<(), Fail> {
+    let alloc = rt.alloc();
+    for (value, want) in [(2, 8), (5, 7)] {
+        let otherwise = codes(alloc, [returned(alloc, Code::Int(7))?])?;
+        let labelled = codes(alloc, [returned(alloc, Code::Int(8))?])?;
+        let mut constants = Items::new(alloc);
+        constants.push(Value::Int(1))?;
+        constants.push(Value::Int(2))?;
+        let sections = [
+            Code::Section(Items::new(alloc), true, otherwise),
+            Code::Section(constants, false, labelled),
+        ];
+        let code = Code::Switch(Boxed::new(alloc, Code::Int(value))?, codes(alloc, sections)?);
+        ends(&rt, alloc, code, Ok(Value::Int(want)), 999_996)?;
     }
     Ok(())
 }

@@ -12,7 +12,7 @@ use Rattle.cs_meaning.specs.declared.fault.Fault.{Fault}
 use Rattle.cs_meaning.specs.declared.fault.Fault.TheVariants as code
 use Rattle.cs_eval.specs.Run.{Means}
 use Rattle.cs_meaning.specs.State.{Fields, State, state}
-use Rattle.cs_meaning.specs.Outcome.{Outcome, gives, faults, stuck, IsDefined}
+use Rattle.cs_meaning.specs.Outcome.{Outcome, gives, breaks, continues, returns, faults, stuck, IsDefined}
 use Rattle.cs_meaning.specs.Meaning.{setting}
 use Rattle.cs_meaning.specs.FirstForms.{IsStatement, HasNumbers}
 use Rattle.cs_meaning.proofs.FirstFormLemmas.{never_stuck, still_numbers}
@@ -58,6 +58,9 @@ numbers_found (field ∷ fields) found (suc k) d within = numbers_found fields (
 
 defined_prop : {A : Type 0} (outcome : Outcome A) → IsProp (IsDefined outcome)
 defined_prop (gives x s) = Unit-prop
+defined_prop (breaks s) = Unit-prop
+defined_prop (continues s) = Unit-prop
+defined_prop (returns x s) = Unit-prop
 defined_prop (faults fault s) = Unit-prop
 defined_prop stuck = λ x y. absurd x
 
