@@ -1,2 +1,7 @@
+pub mod PartLemmas
 pub mod Laws
-pub mod FirstFormLemmas
+pub mod FormLaws
+pub mod RecursionLaws
+pub mod EqualityLemmas
+pub mod KindLemmas
+pub mod UnitLaws

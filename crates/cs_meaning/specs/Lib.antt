@@ -1,5 +1,16 @@
 pub mod State
 pub mod Outcome
+pub mod Kinds
+pub mod Equality
+pub mod NewValues
 pub mod Operators
+pub mod Reading
+pub mod Library
+pub mod Scopes
+pub mod Sections
+pub mod Variables
+pub mod Calls
+pub mod Expressions
+pub mod Statements
 pub mod Meaning
 pub mod FirstForms

@@ -1,5 +1,5 @@
 -- What changes while code runs.
-use Rattle.std.specs.Prelude.{ℕ, ◌==◌, ◌&&◌, if◌then◌else◌, List, Option, Some}
+use Rattle.std.specs.Prelude.{ℕ, ◌==◌, ◌&&◌, if◌then◌else◌, List, [], ◌∷◌, ◌++◌, take, Option, Some}
 use Rattle.cs_ast.specs.declared.value.Value.{Value}
 
 -- values by the number of their instance and their number in it
@@ -10,7 +10,7 @@ Fields = ℕ → ℕ → Option Value
 abbrev pub with_field : Fields → ℕ → ℕ → Value → Fields
 with_field fields who at value who' at' = if who' == who && at' == at then Some value else fields who' at'
 
--- the locals, the own fields of all instances, the receivers of callbacks run so far in order, and the units left
+-- the locals, outermost first, the own fields of all instances, the receivers of callbacks run so far in order, and the units left
 pub record State : Type 0 where
   pub locals : List Value
   pub fields : Fields
@@ -19,3 +19,23 @@ pub record State : Type 0 where
 
 abbrev pub state : List Value → Fields → List ℕ → ℕ → State
 state locals fields receivers left = record { locals = locals; fields = fields; receivers = receivers; left = left }
+
+-- the same state with these locals
+abbrev pub over : List Value → State → State
+over locals s = state locals s.fields s.receivers s.left
+
+-- one local more, innermost
+abbrev pub with_local : Value → State → State
+with_local x s = over (s.locals ++ x ∷ []) s
+
+-- the outermost locals alone, so many
+abbrev pub cut : ℕ → State → State
+cut count s = over (take count s.locals) s
+
+-- one receiver more
+abbrev pub with_receiver : ℕ → State → State
+with_receiver who s = state s.locals s.fields (s.receivers ++ who ∷ []) s.left
+
+-- no unit left
+abbrev pub spent : State → State
+spent s = state s.locals s.fields s.receivers 0
