@@ -44,20 +44,20 @@ pub record Given : Type 0 where
   pub value : Value
 
 -- an operand behind its operator
-abbrev pub unary : UnaryOp → Value → Place → Value
+unfoldable pub unary : UnaryOp → Value → Place → Value
 unary op a place s = do
   x ← a s
   code ← fitting (unary_type op) x
   fine (checked place (c.Unary op code) (unary_type op))
 
 -- a cast takes a text, or null
-abbrev pub cast : CastOp → Value → Place → Value
+unfoldable pub cast : CastOp → Value → Place → Value
 cast op a place s = do
   x ← a s
   code ← fitting t.Text x
   fine (record { place = place; code = c.Cast op code; expr_type = cast_type op })
 
-abbrev pub binary : BinaryOp → Value → Value → Place → Value
+unfoldable pub binary : BinaryOp → Value → Value → Place → Value
 binary op a b place s = do
   x ← a s
   y ← b s
@@ -68,7 +68,7 @@ binary op a b place s = do
 abbrev pub chosen_type : Checked → Checked → Judged ExprType
 chosen_type x y = if is_value x.expr_type then known TypeMismatch y.place (common_type x.expr_type y.expr_type) else mismatch x.place
 
-abbrev pub conditional : Value → Value → Value → Place → Value
+unfoldable pub conditional : Value → Value → Value → Place → Value
 conditional condition a b place s = do
   test ← condition s
   x ← a s
@@ -78,13 +78,13 @@ conditional condition a b place s = do
   fine (record { place = place; code = c.Conditional code x.code y.code; expr_type = given })
 
 -- a hole of an interpolated text
-abbrev pub hole : Value → Scope → Judged Code
+unfoldable pub hole : Value → Scope → Judged Code
 hole a s = do
   x ← a s
   is ← shown x.place x.expr_type
   fine x.code
 
-abbrev pub interpolated : List (Scope → Judged Code) → Place → Value
+unfoldable pub interpolated : List (Scope → Judged Code) → Place → Value
 interpolated parts place s = do
   codes ← each (λ part. part s) parts
   fine (checked place (c.Interpolated codes) t.Text)
@@ -98,7 +98,7 @@ abbrev pub items_of : Place → ExprType → Judged CsType
 items_of place (Of cs_type) = item_type place (out-CsType cs_type)
 items_of place _ = mismatch place
 
-abbrev pub index : Value → Value → Place → Value
+unfoldable pub index : Value → Value → Place → Value
 index a i place s = do
   x ← a s
   y ← i s
@@ -112,13 +112,13 @@ dotted s x name = do
   cs_type ← own_type x.place x.expr_type
   known UnknownName name.place (behind s.records cs_type name.name)
 
-abbrev pub member : Value → Ident → Place → Value
+unfoldable pub member : Value → Ident → Place → Value
 member a name place s = do
   x ← a s
   found ← dotted s x name
   value_of_member place x.code found
 
-abbrev pub member_or_null : Value → Ident → Place → Value
+unfoldable pub member_or_null : Value → Ident → Place → Value
 member_or_null a name place s = do
   x ← a s
   found ← dotted s x name
@@ -137,14 +137,14 @@ all_fitting (wanted ∷ others) (x ∷ xs) = do
 abbrev pub passed : Place → List CsType → List Checked → Judged (List Code)
 passed place takes xs = if length takes == length xs then all_fitting takes xs else mismatch place
 
-abbrev pub call : (Scope → Judged Callee) → List Value → Place → Value
+unfoldable pub call : (Scope → Judged Callee) → List Value → Place → Value
 call target arguments place s = do
   callee ← target s
   xs ← each (λ argument. argument s) arguments
   codes ← passed place callee.takes xs
   fine (checked place (code_of_call callee.called codes) callee.gives)
 
-abbrev pub new : Ident → List Value → Place → Value
+unfoldable pub new : Ident → List Value → Place → Value
 new name arguments place s = do
   found ← known UnknownType name.place (record_named s.records name.name)
   xs ← each (λ argument. argument s) arguments
@@ -172,17 +172,17 @@ with_parts (Some found) parts x place s = do
   codes ← all_fitting (map (λ one. one.0.1) replaced) (map (λ one. one.1) replaced)
   fine (record { place = place; code = c.With x.code (map (λ one. one.0.0) replaced) codes; expr_type = x.expr_type })
 
-abbrev pub with_of : Value → List Given → Place → Value
+unfoldable pub with_of : Value → List Given → Place → Value
 with_of a parts place s = do
   x ← a s
   with_parts (record_of s.records x.expr_type) parts x place s
 
-abbrev pub empty_list : TypeExpr → Place → Value
+unfoldable pub empty_list : TypeExpr → Place → Value
 empty_list cs_type place s = do
   item ← written s.records cs_type
   fine (checked place (c.Library library.EmptyList []) (t.List item))
 
-abbrev pub static_member : StaticType → Ident → Place → Value
+unfoldable pub static_member : StaticType → Ident → Place → Value
 static_member of name place s = found_static name (static_value place of name.name)
 
 -- what is assigned: the value itself, or what the operator gives of the old value and it
@@ -194,7 +194,7 @@ assigned records (Some op) target cs_type x = do
   fine x.code
 
 -- an assignment gives no value
-abbrev pub assign : AssignOp → Ident → Value → Place → Value
+unfoldable pub assign : AssignOp → Ident → Value → Place → Value
 assign op target a place s = do
   one ← meant_by s target
   x ← a s
@@ -202,7 +202,7 @@ assign op target a place s = do
   code ← assigned s.records (operator_of op) target.place one.cs_type x
   fine (checked place (c.Assign variable op code) t.Nothing)
 
-abbrev pub step : StepOp → Ident → Place → Value
+unfoldable pub step : StepOp → Ident → Place → Value
 step op target place s = do
   one ← meant_by s target
   variable ← variable_of target.place one.kind one.place
@@ -214,18 +214,18 @@ abbrev pub callee_by_kind : Place → Named → NameKind → Judged Callee
 callee_by_kind place one (kind.Method takes) = fine (record { called = called.Method one.place; takes = takes; gives = one.cs_type })
 callee_by_kind place one _ = value_of_name place one >>= callee_of_value
 
-abbrev pub name_called : List ℕ → Place → Scope → Judged Callee
+unfoldable pub name_called : List ℕ → Place → Scope → Judged Callee
 name_called name place s = do
   one ← meant_by s (record { place = place; name = name })
   callee_by_kind place one one.kind
 
-abbrev pub member_called : Value → Ident → Place → Scope → Judged Callee
+unfoldable pub member_called : Value → Ident → Place → Scope → Judged Callee
 member_called a name place s = do
   x ← a s
   found ← dotted s x name
   callee_of_member place x.code found
 
-abbrev pub name_read : List ℕ → Place → Value
+unfoldable pub name_read : List ℕ → Place → Value
 name_read name place s = do
   one ← meant_by s (record { place = place; name = name })
   value_of_name place one

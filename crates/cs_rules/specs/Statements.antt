@@ -64,7 +64,7 @@ abbrev pub local_type : Option CsType → Checked → Judged CsType
 local_type None x = own_type x.place x.expr_type
 local_type (Some cs_type) x = if fits x.expr_type cs_type then fine cs_type else mismatch x.place
 
-abbrev pub local : Option TypeExpr → Ident → Option Value → Statement
+unfoldable pub local : Option TypeExpr → Ident → Option Value → Statement
 local cs_type name value s = do
   declared ← if_there (written s.records) cs_type
   new ← is_new s name
@@ -72,19 +72,19 @@ local cs_type name value s = do
   given ← local_type declared x
   fine (done (with_local s name.name given) (c.Declare x.code))
 
-abbrev pub block : List Statement → Statement
+unfoldable pub block : List Statement → Statement
 block body s = do
   codes ← in_order body s
   fine (done s (c.Block codes))
 
-abbrev pub if_else : Value → Statement → Option Statement → Statement
+unfoldable pub if_else : Value → Statement → Option Statement → Statement
 if_else test holds fails s = do
   code ← condition test s
   first ← alone holds s
   second ← if_there (λ one. alone one s) fails
   fine (done s (c.If code first second))
 
-abbrev pub while : Value → Statement → Statement
+unfoldable pub while : Value → Statement → Statement
 while test body s = do
   code ← condition test s
   turn ← alone body s
@@ -103,7 +103,7 @@ stepped a s = do
   x ← a s
   fine x.code
 
-abbrev pub for_loop : Option Statement → Option Value → Option Value → Statement → Statement
+unfoldable pub for_loop : Option Statement → Option Value → Option Value → Statement → Statement
 for_loop start test step body s = do
   first ← started start s
   code ← if_there (λ a. condition a first.1) test
@@ -111,7 +111,7 @@ for_loop start test step body s = do
   turn ← alone body first.1
   fine (done s (c.For first.0 code next turn))
 
-abbrev pub for_each : Ident → Value → Statement → Statement
+unfoldable pub for_each : Ident → Value → Statement → Statement
 for_each name list body s = do
   new ← is_new s name
   x ← list s
@@ -153,13 +153,13 @@ has_default [] = false
 has_default (one ∷ others) = is_default one.kind || has_default others
 
 -- a section of a `switch` that decides by a type
-abbrev pub section : List Label → List Statement → ExprType → Scope → Judged Code
+unfoldable pub section : List Label → List Statement → ExprType → Scope → Judged Code
 section labels body decided s = do
   constants ← each (λ one. labelled decided one.place one.kind) labels
   codes ← in_order body s
   fine (c.Section (constants_of constants) (has_default labels) codes)
 
-abbrev pub switch_of : Value → List (ExprType → Scope → Judged Code) → Statement
+unfoldable pub switch_of : Value → List (ExprType → Scope → Judged Code) → Statement
 switch_of a sections s = do
   x ← a s
   decided ← if decides x.expr_type then fine x.expr_type else mismatch x.place
@@ -169,7 +169,7 @@ switch_of a sections s = do
 abbrev pub return_nothing : Place → Bool → Scope → Judged Done
 return_nothing place allowed s = if allowed then fine (done s (c.Return None)) else mismatch place
 
-abbrev pub return_of : Option Value → Place → Statement
+unfoldable pub return_of : Option Value → Place → Statement
 return_of None place s = return_nothing place (fits (Of t.Nothing) s.result) s
 return_of (Some a) place s = do
   x ← a s
@@ -177,7 +177,7 @@ return_of (Some a) place s = do
   fine (done s (c.Return (Some code)))
 
 -- an expression as a statement
-abbrev pub perform : Value → Statement
+unfoldable pub perform : Value → Statement
 perform a s = do
   x ← a s
   fine (done s (c.Perform x.code))

@@ -5,9 +5,14 @@ use Rattle.cs_ast.specs.declared.code.Code.{Code}
 use Rattle.cs_ast.specs.declared.code.Code.TheVariants as c
 use Rattle.cs_ast.specs.declared.cs_type.CsType.TheVariants as t
 use Rattle.cs_ast.specs.declared.expression.Expr.{Expr}
+use Rattle.cs_ast.specs.declared.expression.ExprKind.{ExprKind}
+use Rattle.cs_ast.specs.declared.expression.Section.{Section}
 use Rattle.cs_ast.specs.declared.expression.Stmt.{Stmt}
+use Rattle.cs_ast.specs.declared.expression.StmtKind.{StmtKind}
+use Rattle.cs_ast.specs.declared.expression.TextPart.{TextPart}
+use Rattle.cs_ast.specs.declared.expression.WithPart.{WithPart}
 use Rattle.cs_ast.specs.declared.expression.Body.TheOpen.{ExprKind-F, StmtKind-F, TextPart-F}
-use Rattle.cs_ast.specs.declared.expression.Body.TheFolds.{fold-Expr, fold-Stmt}
+use Rattle.cs_ast.specs.declared.expression.Body.TheFolds.{fold-Expr, fold-ExprKind, fold-TextPart, fold-WithPart, fold-Stmt, fold-StmtKind, fold-Section}
 use Rattle.cs_ast.specs.declared.scope.Scope.{Scope}
 use Rattle.cs_rules.specs.declared.callee.Callee.{Callee}
 use Rattle.cs_rules.specs.declared.checked.Checked.{Checked}
@@ -34,7 +39,7 @@ abbrev pub Form_of_statement : Type 0
 Form_of_statement = StmtKind-F (Unit {0}) (Place → Uses) (Place → Statement) (Scope → Judged Code) Uses (ExprType → Scope → Judged Code) Statement Given
 
 -- as a value
-abbrev pub value_of_form : Form → Place → Value
+unfoldable pub value_of_form : Form → Place → Value
 value_of_form (ExprKind-F.Int number) place s = fine (checked place (c.Int number) t.Int)
 value_of_form (ExprKind-F.Bool truth) place s = fine (checked place (c.Bool truth) t.Bool)
 value_of_form (ExprKind-F.Text text) place s = fine (checked place (c.Text text) t.Text)
@@ -58,21 +63,21 @@ value_of_form (ExprKind-F.Step op target) place s = e.step op target place s
 value_of_form (ExprKind-F.Lambda argument body) place s = mismatch place
 
 -- as what is called: a method, a member of the library, or a value
-abbrev pub callee_of_form : Form → Place → Scope → Judged Callee
+unfoldable pub callee_of_form : Form → Place → Scope → Judged Callee
 callee_of_form (ExprKind-F.Name name) place s = e.name_called name place s
 callee_of_form (ExprKind-F.Member a name) place s = e.member_called a.value name place s
 callee_of_form (ExprKind-F.Static of name) place s = static_callee place of name
 callee_of_form form place s = value_of_form form place s >>= callee_of_value
 
-abbrev pub uses_of_form : Form → Place → Uses
+unfoldable pub uses_of_form : Form → Place → Uses
 uses_of_form form place = record { value = value_of_form form place; callee = callee_of_form form place }
 
-abbrev pub text_part : TextPart-F (Unit {0}) (Place → Uses) (Place → Statement) (Scope → Judged Code) Uses (ExprType → Scope → Judged Code) Statement Given → Scope → Judged Code
+unfoldable pub text_part : TextPart-F (Unit {0}) (Place → Uses) (Place → Statement) (Scope → Judged Code) Uses (ExprType → Scope → Judged Code) Statement Given → Scope → Judged Code
 text_part (TextPart-F.Literal text) s = fine (c.Piece text)
 text_part (TextPart-F.Hole a) s = e.hole a.value s
 
 -- a statement
-abbrev pub statement_of_form : Form_of_statement → Place → Statement
+unfoldable pub statement_of_form : Form_of_statement → Place → Statement
 statement_of_form (StmtKind-F.Local cs_type name value) place s = st.local cs_type name (option_map (λ a. a.value) value) s
 statement_of_form StmtKind-F.Empty place s = fine (done s c.Empty)
 statement_of_form (StmtKind-F.StmtKind::Block body) place s = st.block body s
@@ -94,10 +99,45 @@ uses =
     (λ body. tt) uses_of_form statement_of_form text_part (λ it. it.kind it.place) (λ it. st.section it.labels it.body)
     (λ it. it.kind it.place) (λ it. record { name = it.name; value = it.value.value })
 
+-- what a form of expression comes to at a place
+unfoldable pub uses_of_kind : ExprKind → Place → Uses
+uses_of_kind =
+    fold-ExprKind (Unit {0}) (Place → Uses) (Place → Statement) (Scope → Judged Code) Uses (ExprType → Scope → Judged Code) Statement Given
+    (λ body. tt) uses_of_form statement_of_form text_part (λ it. it.kind it.place) (λ it. st.section it.labels it.body)
+    (λ it. it.kind it.place) (λ it. record { name = it.name; value = it.value.value })
+
+-- what a piece of an interpolated text comes to
+unfoldable pub piece : TextPart → Scope → Judged Code
+piece =
+    fold-TextPart (Unit {0}) (Place → Uses) (Place → Statement) (Scope → Judged Code) Uses (ExprType → Scope → Judged Code) Statement Given
+    (λ body. tt) uses_of_form statement_of_form text_part (λ it. it.kind it.place) (λ it. st.section it.labels it.body)
+    (λ it. it.kind it.place) (λ it. record { name = it.name; value = it.value.value })
+
+-- what a part behind `with` comes to
+unfoldable pub given : WithPart → Given
+given =
+    fold-WithPart (Unit {0}) (Place → Uses) (Place → Statement) (Scope → Judged Code) Uses (ExprType → Scope → Judged Code) Statement Given
+    (λ body. tt) uses_of_form statement_of_form text_part (λ it. it.kind it.place) (λ it. st.section it.labels it.body)
+    (λ it. it.kind it.place) (λ it. record { name = it.name; value = it.value.value })
+
 -- what a statement comes to
 unfoldable pub statement : Stmt → Statement
 statement =
     fold-Stmt (Unit {0}) (Place → Uses) (Place → Statement) (Scope → Judged Code) Uses (ExprType → Scope → Judged Code) Statement Given
+    (λ body. tt) uses_of_form statement_of_form text_part (λ it. it.kind it.place) (λ it. st.section it.labels it.body)
+    (λ it. it.kind it.place) (λ it. record { name = it.name; value = it.value.value })
+
+-- what a form of statement comes to at a place
+unfoldable pub statement_of_kind : StmtKind → Place → Statement
+statement_of_kind =
+    fold-StmtKind (Unit {0}) (Place → Uses) (Place → Statement) (Scope → Judged Code) Uses (ExprType → Scope → Judged Code) Statement Given
+    (λ body. tt) uses_of_form statement_of_form text_part (λ it. it.kind it.place) (λ it. st.section it.labels it.body)
+    (λ it. it.kind it.place) (λ it. record { name = it.name; value = it.value.value })
+
+-- what a section of a `switch` comes to, by the type of what decides
+unfoldable pub section : Section → ExprType → Scope → Judged Code
+section =
+    fold-Section (Unit {0}) (Place → Uses) (Place → Statement) (Scope → Judged Code) Uses (ExprType → Scope → Judged Code) Statement Given
     (λ body. tt) uses_of_form statement_of_form text_part (λ it. it.kind it.place) (λ it. st.section it.labels it.body)
     (λ it. it.kind it.place) (λ it. record { name = it.name; value = it.value.value })
 
