@@ -1,0 +1,3 @@
+pub mod Scopes
+pub mod Accepted
+pub mod Sound
