@@ -1,6 +1,6 @@
 -- `with`, assignments and steps, where their parts have types.
-use Rattle.std.proofs.Common.{◌≡◌, ℕ, List, [], ◌∷◌, map, length, refl, sym, ap, subst, ◌∙◌, ◌⊎◌, inl, inr}
-use Rattle.std.specs.Prelude.{Bool, true, false, slice_get, Option, Some, None}
+use Rattle.std.proofs.Common.{◌≡◌, ℕ, List, [], ◌∷◌, map, refl, sym, ap, subst, ◌∙◌}
+use Rattle.std.specs.Prelude.{true, slice_get, Option, Some, None}
 use Rattle.text_core.specs.declared.place.Place.{Place}
 use Rattle.cs_ast.specs.declared.cs_type.CsType.{CsType}
 use Rattle.cs_ast.specs.declared.cs_type.CsType.TheVariants as t
@@ -8,14 +8,12 @@ use Rattle.cs_ast.specs.declared.code.Code.{Code}
 use Rattle.cs_ast.specs.declared.code.Code.TheVariants as c
 use Rattle.cs_ast.specs.declared.code.Variable.{Variable}
 use Rattle.cs_ast.specs.declared.identifier.Ident.{Ident}
-use Rattle.cs_ast.specs.declared.member.Argument.{Argument}
 use Rattle.cs_ast.specs.declared.member.Member.{Member}
 use Rattle.cs_ast.specs.declared.operators.AssignOp.{AssignOp}
 use Rattle.cs_ast.specs.declared.operators.AssignOp.TheVariants as assign_op
 use Rattle.cs_ast.specs.declared.operators.BinaryOp.{BinaryOp}
 use Rattle.cs_ast.specs.declared.operators.BinaryOp.TheVariants as binary_op
 use Rattle.cs_ast.specs.declared.operators.StepOp.{StepOp}
-use Rattle.cs_ast.specs.declared.scope.Named.{Named}
 use Rattle.cs_ast.specs.declared.scope.Scope.{Scope}
 use Rattle.cs_meaning.specs.Variables.{operator_in}
 use Rattle.cs_rules.specs.declared.checked.Checked.{Checked}
@@ -25,7 +23,7 @@ use Rattle.cs_rules.specs.declared.rule.Rule.TheVariants.{UnknownName}
 use Rattle.cs_rules.specs.Judged.{Judged, fine, breaks, mismatch, known, each, ◌>>=◌}
 use Rattle.cs_rules.specs.Types.{fits, wants, fitting, checked}
 use Rattle.cs_rules.specs.Names.{meant, variable_of}
-use Rattle.cs_rules.specs.Written.{type_of, Declared, record_named}
+use Rattle.cs_rules.specs.Written.{Declared, record_named}
 use Rattle.cs_rules.specs.Library.{part_from}
 use Rattle.cs_rules.specs.Operators.{binary_type, operator_of}
 use Rattle.cs_rules.specs.Expressions.{Value, Given, all_fit, record_of, replacing, with_parts, with_of, assigned, assign, step}

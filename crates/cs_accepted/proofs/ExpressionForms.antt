@@ -1,7 +1,7 @@
 -- Each form of expression, where its parts have types.
-use Rattle.std.proofs.Common.{◌≡◌, ℕ, zero, suc, ◌+◌, List, [], ◌∷◌, map, length, refl, sym, ap, subst, ◌∙◌, ◌⊎◌, inl, inr, arith}
+use Rattle.std.proofs.Common.{◌≡◌, ℕ, List, [], ◌∷◌, map, length, refl, sym, subst, inl, inr, arith}
 use Rattle.std.proofs.lemmas.Bool.{eqb-true}
-use Rattle.std.specs.Prelude.{Bool, true, false, ◌==◌, if◌then◌else◌, slice_get, Option, Some, None}
+use Rattle.std.specs.Prelude.{true, ◌==◌, Some}
 use Rattle.text_core.specs.declared.place.Place.{Place}
 use Rattle.cs_ast.specs.declared.cs_type.CsType.{CsType}
 use Rattle.cs_ast.specs.declared.cs_type.CsType.TheVariants as t
@@ -9,48 +9,37 @@ use Rattle.cs_ast.specs.declared.cs_type.TypeExpr.{TypeExpr}
 use Rattle.cs_ast.specs.declared.code.Code.{Code}
 use Rattle.cs_ast.specs.declared.code.Code.TheVariants as c
 use Rattle.cs_ast.specs.declared.code.LibraryMember.TheVariants as library
-use Rattle.cs_ast.specs.declared.code.Variable.{Variable}
 use Rattle.cs_ast.specs.declared.identifier.Ident.{Ident}
 use Rattle.cs_ast.specs.declared.member.Argument.{Argument}
-use Rattle.cs_ast.specs.declared.member.Member.{Member}
-use Rattle.cs_ast.specs.declared.operators.AssignOp.{AssignOp}
-use Rattle.cs_ast.specs.declared.operators.AssignOp.TheVariants as assign_op
 use Rattle.cs_ast.specs.declared.operators.BinaryOp.{BinaryOp}
-use Rattle.cs_ast.specs.declared.operators.BinaryOp.TheVariants as binary_op
 use Rattle.cs_ast.specs.declared.operators.CastOp.{CastOp}
 use Rattle.cs_ast.specs.declared.operators.CastOp.TheVariants as cast_op
 use Rattle.cs_ast.specs.declared.operators.StaticType.{StaticType}
-use Rattle.cs_ast.specs.declared.operators.StepOp.{StepOp}
 use Rattle.cs_ast.specs.declared.operators.UnaryOp.{UnaryOp}
 use Rattle.cs_ast.specs.declared.operators.UnaryOp.TheVariants as unary_op
-use Rattle.cs_ast.specs.declared.scope.Named.{Named}
 use Rattle.cs_ast.specs.declared.scope.Scope.{Scope}
-use Rattle.cs_meaning.specs.Variables.{operator_in}
 use Rattle.cs_rules.specs.declared.callee.Callee.{Callee}
-use Rattle.cs_rules.specs.declared.callee.Dotted.{Dotted}
 use Rattle.cs_rules.specs.declared.checked.Checked.{Checked}
 use Rattle.cs_rules.specs.declared.checked.ExprType.{ExprType}
 use Rattle.cs_rules.specs.declared.checked.ExprType.TheVariants.{Of, Null, Markup}
 use Rattle.cs_rules.specs.declared.rule.Rule.TheVariants.{UnknownName, UnknownType, TypeMismatch}
 use Rattle.cs_rules.specs.Judged.{Judged, fine, breaks, mismatch, known, each, ◌>>=◌}
 use Rattle.cs_rules.specs.Types.{fits, common_type, wants, fitting, checked}
-use Rattle.cs_rules.specs.Names.{meant, meant_by, value_of_name, variable_of}
-use Rattle.cs_rules.specs.Written.{type_of, written, Declared, record_named}
-use Rattle.cs_rules.specs.Library.{part_from, value_of_member, null_member, callee_of_member, code_of_call}
-use Rattle.cs_rules.specs.Operators.{unary_type, cast_type, is_shown, shown, is_value, binary_type, operator_of}
-use Rattle.cs_rules.specs.Expressions.{Value, Given, unary, cast, binary, chosen_type, conditional, hole, interpolated, items_of, index, dotted, member, member_or_null, all_fit, passed, call, new, record_of, replacing, with_parts, with_of, empty_list, static_member, assigned, assign, step, callee_by_kind, name_called, member_called, name_read}
-use Rattle.cs_typing.specs.Types.{RecordType}
+use Rattle.cs_rules.specs.Names.{meant, value_of_name}
+use Rattle.cs_rules.specs.Written.{type_of, written, record_named}
+use Rattle.cs_rules.specs.Library.{value_of_member, null_member, callee_of_member, code_of_call}
+use Rattle.cs_rules.specs.Operators.{unary_type, cast_type, is_shown, shown, is_value, binary_type}
+use Rattle.cs_rules.specs.Expressions.{Value, unary, cast, binary, chosen_type, conditional, hole, interpolated, items_of, index, dotted, member, member_or_null, all_fit, passed, call, new, empty_list, static_member, callee_by_kind, name_called, member_called, name_read}
 use Rattle.cs_typing.specs.Operators.{UnaryTakes, Combines, AssignTakes}
 use Rattle.cs_typing.specs.Operators as op
 use Rattle.cs_typing.specs.Expressions.{Surroundings, CodeHas, CodesHave, PartsShow, ReplacementsHave, VariableHas}
 use Rattle.cs_typing.specs.Expressions as code
-use Rattle.cs_accepted.specs.Scopes.{NameFits, record_type, ScopeFits}
-use Rattle.cs_accepted.specs.Accepted.{IfFine, HasOf, HasType, ValueFits, CalleeFits}
+use Rattle.cs_accepted.specs.Scopes.{record_type, ScopeFits}
+use Rattle.cs_accepted.specs.Accepted.{IfFine, HasType, ValueFits, CalleeFits}
 use Rattle.cs_accepted.specs.Sound.{ValueSound, CalleeSound, PieceFits, PieceSound}
 use Rattle.cs_accepted.proofs.Judging.{then_fine, weaker_fine, known_fine, tested_fine, either_fine}
-use Rattle.cs_accepted.proofs.TypeLemmas.{Form, form, int, bool, text, list, callback, fragment, change, args, nothing, null_has, no_callback, exactly, int_alone, text_alone, wants_fine, fitting_fine, fits_has, common_has}
-use Rattle.cs_accepted.proofs.TypeLemmas as shape
-use Rattle.cs_accepted.proofs.OperatorLemmas.{Plain, Joined, Shown, shown_has, joined_fine, binary_has}
+use Rattle.cs_accepted.proofs.TypeLemmas.{wants_fine, fitting_fine, fits_has, common_has}
+use Rattle.cs_accepted.proofs.OperatorLemmas.{shown_has, binary_has}
 use Rattle.cs_accepted.proofs.NameLemmas.{named_value, named_variable, named_callee, DottedFits, part_in, dotted_fine, member_value, member_callee, static_fine, items_fine}
 use Rattle.cs_accepted.proofs.NameLemmas as names
 

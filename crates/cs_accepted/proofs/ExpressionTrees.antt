@@ -1,14 +1,11 @@
 -- Every expression that breaks no rule has the type that the rules say: by induction on its tree.
-use Rattle.std.proofs.Common.{◌≡◌, ℕ, List, [], ◌∷◌, map, refl, sym, ap, subst, ◌∙◌, inl}
-use Rattle.std.specs.Prelude.{ℤ, Bool, Option}
+use Rattle.std.proofs.Common.{◌≡◌, ℕ, List, [], ◌∷◌, map, refl, sym, subst, inl}
 use Rattle.text_core.specs.declared.place.Place.{Place}
-use Rattle.cs_ast.specs.declared.cs_type.CsType.{CsType}
 use Rattle.cs_ast.specs.declared.cs_type.CsType.TheVariants as t
-use Rattle.cs_ast.specs.declared.cs_type.TypeExpr.{TypeExpr}
 use Rattle.cs_ast.specs.declared.code.Code.{Code}
 use Rattle.cs_ast.specs.declared.code.Code.TheVariants as c
 use Rattle.cs_ast.specs.declared.expression.Body.{Body}
-use Rattle.cs_ast.specs.declared.expression.Body.TheOpen.{Body-F, ExprKind-F, StmtKind-F, TextPart-F}
+use Rattle.cs_ast.specs.declared.expression.Body.TheOpen.{ExprKind-F, TextPart-F}
 use Rattle.cs_ast.specs.declared.expression.Body.TheFolds.{ind-Expr, map-ExprKind, map-TextPart}
 use Rattle.cs_ast.specs.declared.expression.Body.TheViews.{roll-ExprKind, roll-TextPart}
 use Rattle.cs_ast.specs.declared.expression.Expr.{Expr, Expr-F, roll-Expr}
@@ -24,7 +21,6 @@ use Rattle.cs_ast.specs.declared.identifier.Ident.{Ident}
 use Rattle.cs_ast.specs.declared.operators.StaticType.{StaticType}
 use Rattle.cs_ast.specs.declared.scope.Scope.{Scope}
 use Rattle.cs_rules.specs.declared.callee.Callee.{Callee}
-use Rattle.cs_rules.specs.declared.checked.Checked.{Checked}
 use Rattle.cs_rules.specs.declared.checked.ExprType.TheVariants.{Null}
 use Rattle.cs_rules.specs.Judged.{Judged, fine, mismatch, ◌>>=◌}
 use Rattle.cs_rules.specs.Types.{checked}
@@ -35,7 +31,6 @@ use Rattle.cs_rules.specs.Trees.{Uses, uses, uses_of_kind, piece, given}
 use Rattle.cs_rules.proofs.Laws as law
 use Rattle.cs_typing.specs.Expressions.{Surroundings}
 use Rattle.cs_typing.specs.Expressions as code
-use Rattle.cs_accepted.specs.Scopes.{ScopeFits}
 use Rattle.cs_accepted.specs.Accepted.{IfFine, ValueFits, CalleeFits}
 use Rattle.cs_accepted.specs.Sound.{ValueSound, CalleeSound, PieceFits, PieceSound}
 use Rattle.cs_accepted.proofs.Judging.{then_fine}

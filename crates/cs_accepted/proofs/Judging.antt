@@ -1,9 +1,9 @@
 -- How what holds of what is fine is put together.
-use Rattle.std.proofs.Common.{◌≡◌, List, [], ◌∷◌, refl}
+use Rattle.std.proofs.Common.{◌≡◌, refl}
 use Rattle.std.specs.Prelude.{Bool, true, false, if◌then◌else◌, Option, Some, None}
 use Rattle.text_core.specs.declared.place.Place.{Place}
 use Rattle.cs_rules.specs.declared.rule.Rule.{Rule}
-use Rattle.cs_rules.specs.Judged.{Judged, fine, breaks, known, each, if_there, ◌>>=◌}
+use Rattle.cs_rules.specs.Judged.{Judged, fine, breaks, known, ◌>>=◌}
 use Rattle.cs_accepted.specs.Accepted.{IfFine}
 
 -- one after the other

@@ -6,7 +6,6 @@ use Rattle.cs_ast.specs.declared.code.Code.{Code}
 use Rattle.cs_ast.specs.declared.expression.Expr.{Expr}
 use Rattle.cs_ast.specs.declared.scope.Scope.{Scope}
 use Rattle.cs_ast.specs.declared.value.Value.{Value}
-use Rattle.cs_ast.specs.declared.value.Value.TheVariants as v
 use Rattle.cs_meaning.specs.State.{State}
 use Rattle.cs_meaning.specs.Outcome.{Outcome, gives, breaks, continues, returns, faults, stuck, IsDefined}
 use Rattle.cs_meaning.specs.Meaning.{Setting, meaning}
@@ -15,7 +14,6 @@ use Rattle.cs_rules.specs.declared.checked.ExprType.{ExprType}
 use Rattle.cs_rules.specs.declared.checked.ExprType.TheVariants.{Of, Null, Markup}
 use Rattle.cs_rules.specs.Judged.{fine}
 use Rattle.cs_rules.specs.Trees.{value_in}
-use Rattle.cs_typing.specs.Types.{Types}
 use Rattle.cs_typing.specs.Values.{HasNull, ValueHas}
 use Rattle.cs_typing.specs.Values as has
 use Rattle.cs_typing.specs.Expressions.{Surroundings, CodeHas}

@@ -6,3 +6,8 @@ pub mod ExpressionForms
 pub mod ChangeForms
 pub mod ExpressionTrees
 pub mod LawLemmas
+pub mod ScopeLemmas
+pub mod StatementForms
+pub mod LoopForms
+pub mod StatementTrees
+pub mod BodyLemmas

@@ -1,5 +1,5 @@
 -- Names, members and calls that are accepted have the types that they say.
-use Rattle.std.proofs.Common.{◌≡◌, ℕ, zero, suc, ◌+◌, List, [], ◌∷◌, map, refl, sym, ap, subst, ◌∙◌, ◌⊎◌, inl, inr, arith}
+use Rattle.std.proofs.Common.{◌≡◌, ℕ, suc, ◌+◌, List, [], ◌∷◌, map, refl, sym, ap, subst, ◌∙◌, arith}
 use Rattle.std.specs.Prelude.{pos, negsuc, Bool, true, false, codes, if◌then◌else◌, slice_get, bytes_eq, option_map, Option, Some, None}
 use Rattle.text_core.specs.declared.place.Place.{Place}
 use Rattle.cs_ast.specs.declared.cs_type.CsType.{CsType, out-CsType}
@@ -8,9 +8,7 @@ use Rattle.cs_ast.specs.declared.cs_type.CsType.TheOpen.{CsType-F}
 use Rattle.cs_ast.specs.declared.cs_type.CsType.TheViews.{roll-CsType, roll-out-CsType}
 use Rattle.cs_ast.specs.declared.code.Code.{Code}
 use Rattle.cs_ast.specs.declared.code.Code.TheVariants as c
-use Rattle.cs_ast.specs.declared.code.LibraryMember.{LibraryMember}
 use Rattle.cs_ast.specs.declared.code.LibraryMember.TheVariants as library
-use Rattle.cs_ast.specs.declared.code.Variable.{Variable}
 use Rattle.cs_ast.specs.declared.identifier.Ident.{Ident}
 use Rattle.cs_ast.specs.declared.member.Argument.{Argument}
 use Rattle.cs_ast.specs.declared.operators.StaticType.{StaticType}
@@ -19,16 +17,15 @@ use Rattle.cs_ast.specs.declared.scope.Named.{Named}
 use Rattle.cs_ast.specs.declared.scope.NameKind.{NameKind}
 use Rattle.cs_ast.specs.declared.scope.Scope.{Scope}
 use Rattle.cs_rules.specs.declared.callee.Called.TheVariants as called
-use Rattle.cs_rules.specs.declared.callee.Callee.{Callee}
 use Rattle.cs_rules.specs.declared.callee.Dotted.{Dotted}
 use Rattle.cs_rules.specs.declared.callee.Dotted.TheVariants as dot
 use Rattle.cs_rules.specs.declared.checked.Checked.{Checked}
 use Rattle.cs_rules.specs.declared.checked.ExprType.{ExprType}
 use Rattle.cs_rules.specs.declared.checked.ExprType.TheVariants.{Of, Null, Markup}
 use Rattle.cs_rules.specs.declared.rule.Rule.TheVariants.{UnknownName, TypeMismatch}
-use Rattle.cs_rules.specs.Judged.{Judged, fine, breaks, mismatch, known, ◌>>=◌}
+use Rattle.cs_rules.specs.Judged.{fine, mismatch, known, ◌>>=◌}
 use Rattle.cs_rules.specs.Types.{may_be_null, own_type, checked}
-use Rattle.cs_rules.specs.Names.{meant, meant_by, value_of_kind, value_of_name, variable_of}
+use Rattle.cs_rules.specs.Names.{value_of_kind, value_of_name, variable_of}
 use Rattle.cs_rules.specs.Written.{type_of, Declared, record_named}
 use Rattle.cs_rules.specs.Library.{part_from, part_named, entry, of_all, of_texts, of_lists, argument_types, of_callbacks, of_changes, behind_level, behind, value_of_member, null_member, static_value, found_static, fragment_level, callee_of_type, callee_of_value, callee_of_member, static_callee, code_of_call}
 use Rattle.cs_rules.specs.Expressions.{dotted, callee_by_kind, item_type, items_of}
@@ -39,7 +36,7 @@ use Rattle.cs_typing.specs.Expressions.{Surroundings, CodeHas, CodesHave, Variab
 use Rattle.cs_typing.specs.Expressions as code
 use Rattle.cs_accepted.specs.Scopes.{MethodHas, NameFits, record_type, ScopeFits}
 use Rattle.cs_accepted.specs.Scopes as scope
-use Rattle.cs_accepted.specs.Accepted.{IfFine, HasOf, HasType, ValueFits, CalleeFits}
+use Rattle.cs_accepted.specs.Accepted.{IfFine, HasType, ValueFits, CalleeFits}
 use Rattle.cs_accepted.proofs.Judging.{then_fine, weaker_fine, known_fine, tested_fine, either_fine}
 use Rattle.cs_accepted.proofs.TypeLemmas.{null_has, own_type_fine}
 

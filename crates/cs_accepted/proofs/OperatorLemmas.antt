@@ -1,25 +1,22 @@
 -- Operators that are accepted take the types of their operands.
-use Rattle.std.proofs.Common.{◌≡◌, List, refl, sym, ap, subst, ◌∙◌, ◌⊎◌, inl, inr}
-use Rattle.std.specs.Prelude.{Bool, true, false, ◌||◌, if◌then◌else◌, Option, Some, None}
+use Rattle.std.proofs.Common.{◌≡◌, List, refl, sym, ap, subst, ◌∙◌, inl, inr}
+use Rattle.std.specs.Prelude.{true, ◌||◌, if◌then◌else◌, Some}
 use Rattle.text_core.specs.declared.place.Place.{Place}
 use Rattle.cs_ast.specs.declared.cs_type.CsType.{CsType}
 use Rattle.cs_ast.specs.declared.cs_type.CsType.TheVariants as t
-use Rattle.cs_ast.specs.declared.code.Code.{Code}
 use Rattle.cs_ast.specs.declared.code.Code.TheVariants as c
 use Rattle.cs_ast.specs.declared.member.Member.{Member}
 use Rattle.cs_ast.specs.declared.operators.AssignOp.{AssignOp}
 use Rattle.cs_ast.specs.declared.operators.AssignOp.TheVariants as assign
 use Rattle.cs_ast.specs.declared.operators.BinaryOp.{BinaryOp}
 use Rattle.cs_ast.specs.declared.operators.BinaryOp.TheVariants as binary
-use Rattle.cs_meaning.specs.Variables.{operator_in}
 use Rattle.cs_rules.specs.declared.checked.Checked.{Checked}
 use Rattle.cs_rules.specs.declared.checked.ExprType.{ExprType}
 use Rattle.cs_rules.specs.declared.checked.ExprType.TheVariants.{Of, Null, Markup}
 use Rattle.cs_rules.specs.declared.rule.Rule.TheVariants.{TypeMismatch}
-use Rattle.cs_rules.specs.Judged.{Judged, fine, breaks, mismatch, known, ◌>>=◌}
-use Rattle.cs_rules.specs.Types.{fits, common_type, wants, fitting}
-use Rattle.cs_rules.specs.Operators.{is_text, is_shown, shown, is_nullable, alike, sum_type, either_type, plain_type, may_compare, are_compared, comparison_type, binary_type, operator_of}
-use Rattle.cs_rules.specs.Expressions.{assigned}
+use Rattle.cs_rules.specs.Judged.{fine, mismatch, known, ◌>>=◌}
+use Rattle.cs_rules.specs.Types.{fits, common_type, wants}
+use Rattle.cs_rules.specs.Operators.{is_text, is_shown, shown, is_nullable, alike, sum_type, either_type, may_compare, are_compared, comparison_type, binary_type, operator_of}
 use Rattle.cs_typing.specs.Values.{HasNull}
 use Rattle.cs_typing.specs.Values as has
 use Rattle.cs_typing.specs.Operators.{Shows, IsArithmetic, IsOrder, Combines, BinaryTakes, AssignTakes}
@@ -28,8 +25,7 @@ use Rattle.cs_typing.specs.Expressions.{Surroundings, CodeHas}
 use Rattle.cs_typing.specs.Expressions as code
 use Rattle.cs_accepted.specs.Accepted.{IfFine, HasOf, HasType, ValueFits}
 use Rattle.cs_accepted.proofs.Judging.{then_fine, weaker_fine, known_fine, tested_fine, either_fine}
-use Rattle.cs_accepted.proofs.TypeLemmas.{Form, form, int, bool, text, record_of, list, callback, fragment, change, args, nothing, either_passes, no_callback, exactly, int_alone, bool_alone, text_alone, wants_fine, fits_has, common_has}
-use Rattle.cs_accepted.proofs.TypeLemmas as shape
+use Rattle.cs_accepted.proofs.TypeLemmas.{Form, form, int, bool, text, record_of, list, callback, fragment, change, args, nothing, either_passes, no_callback, exactly, int_alone, bool_alone, wants_fine, common_has}
 
 -- a type of operands that is no callback
 abbrev pub Plain : CsType → Type 0

@@ -1,5 +1,5 @@
 -- What fits has the type that is wanted.
-use Rattle.std.proofs.Common.{◌≡◌, ℕ, List, [], ◌∷◌, refl, sym, ap, subst, ◌∙◌, ◌⊎◌, inl, inr}
+use Rattle.std.proofs.Common.{◌≡◌, ℕ, List, refl, sym, ap, subst, ◌∙◌, ◌⊎◌, inl, inr}
 use Rattle.std.specs.Prelude.{Bool, true, false, ◌||◌, if◌then◌else◌, Option, Some, None}
 use Rattle.text_core.specs.declared.place.Place.{Place}
 use Rattle.cs_ast.specs.declared.cs_type.CsType.{CsType, out-CsType}
@@ -10,7 +10,6 @@ use Rattle.cs_ast.specs.declared.code.Code.{Code}
 use Rattle.cs_rules.specs.declared.checked.Checked.{Checked}
 use Rattle.cs_rules.specs.declared.checked.ExprType.{ExprType}
 use Rattle.cs_rules.specs.declared.checked.ExprType.TheVariants.{Of, Null, Markup}
-use Rattle.cs_rules.specs.Judged.{Judged, fine, breaks}
 use Rattle.cs_rules.specs.Types.{same_type, may_be_null, drops_argument, fits_type, fits, common_type, has_values, wants, fitting, own_type}
 use Rattle.cs_rules.proofs.SameType.{same_equal}
 use Rattle.cs_typing.specs.Values.{HasNull}
@@ -69,7 +68,7 @@ drops_level : (x y : CsType-F CsType) → drops_argument x y ≡ true → (argum
 drops_level (CsType-F.Callback None) (CsType-F.Callback (Some argument)) e = (argument, refl, refl)
 drops_level _ _ e = absurd (cc)
 
-drops : (given wanted : CsType) → drops_argument (out-CsType given) (out-CsType wanted) ≡ true → (argument : CsType) × (given ≡ t.Callback None) × (wanted ≡ t.Callback (Some argument))
+pub drops : (given wanted : CsType) → drops_argument (out-CsType given) (out-CsType wanted) ≡ true → (argument : CsType) × (given ≡ t.Callback None) × (wanted ≡ t.Callback (Some argument))
 drops given wanted e =
     let k = drops_level (out-CsType given) (out-CsType wanted) e in
     (k.0, sym (roll-out-CsType given) ∙ ap roll-CsType k.1 ∙ t.rolls-Callback None, sym (roll-out-CsType wanted) ∙ ap roll-CsType k.2 ∙ t.rolls-Callback (Some k.0))

@@ -3,7 +3,6 @@ use Rattle.std.specs.Prelude.{List}
 use Rattle.cs_ast.specs.declared.cs_type.CsType.{CsType}
 use Rattle.cs_ast.specs.declared.cs_type.CsType.TheVariants as t
 use Rattle.cs_ast.specs.declared.code.Code.{Code}
-use Rattle.cs_ast.specs.declared.scope.Scope.{Scope}
 use Rattle.cs_ast.specs.declared.value.Value.{Value}
 use Rattle.cs_meaning.specs.State.{State}
 use Rattle.cs_rules.specs.declared.checked.Checked.{Checked}

@@ -1,3 +1,5 @@
 pub mod Scopes
 pub mod Accepted
+pub mod Leaves
 pub mod Sound
+pub mod Bodies

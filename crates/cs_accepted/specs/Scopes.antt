@@ -1,5 +1,5 @@
 -- Which scopes say what the types say.
-use Rattle.std.specs.Prelude.{◌≡◌, ℕ, List, [], map, length, slice_get, Option, Some}
+use Rattle.std.specs.Prelude.{◌≡◌, ℕ, List, [], map, length, slice_get, Some}
 use Rattle.cs_ast.specs.declared.cs_type.CsType.{CsType}
 use Rattle.cs_ast.specs.declared.scope.Scope.{Scope}
 use Rattle.cs_ast.specs.declared.scope.Named.{Named}

@@ -1,20 +1,25 @@
 // Laws of accepted code. Each function does nothing: its contract is the law.
 ghost use Rattle.std.specs.Prelude.{◌≡◌, List};
 ghost use Rattle.cs_ast.specs.declared.cs_type.CsType.{CsType};
+ghost use Rattle.cs_ast.specs.declared.code.Code.{Code};
+ghost use Rattle.cs_ast.specs.declared.expression.Body.{Body};
 ghost use Rattle.cs_ast.specs.declared.expression.Expr.{Expr};
 ghost use Rattle.cs_ast.specs.declared.scope.Scope.{Scope};
 ghost use Rattle.cs_meaning.specs.State.{State};
 ghost use Rattle.cs_meaning.specs.Outcome.{IsDefined};
-ghost use Rattle.cs_meaning.specs.Meaning.{Setting, meaning};
+ghost use Rattle.cs_meaning.specs.Meaning.{Setting, meaning, body_meaning};
 ghost use Rattle.cs_rules.specs.declared.checked.Checked.{Checked};
 ghost use Rattle.cs_rules.specs.Judged.{fine};
 ghost use Rattle.cs_rules.specs.Trees.{value_in};
 ghost use Rattle.cs_typing.specs.Expressions.{Surroundings};
 ghost use Rattle.cs_typing.specs.States.{StateHas};
-ghost use Rattle.cs_typing.specs.Outcomes.{Fits, no_jump};
+ghost use Rattle.cs_typing.specs.Outcomes.{Fits, no_jump, Left};
+ghost use Rattle.cs_typing.specs.Types.{Types, Signature};
+ghost use Rattle.cs_typing.specs.Bodies.{surroundings_of, BodyHas};
 ghost use Rattle.cs_typing.specs.Settings.{SettingHas};
 ghost use Rattle.cs_accepted.specs.Scopes.{ScopeFits};
 ghost use Rattle.cs_accepted.specs.Accepted.{ValueFits, Typed};
+ghost use Rattle.cs_accepted.specs.Bodies.{Accepts};
 
 /// The code of an expression that breaks no rule has the expression's type.
 pub fn accepted_expressions_have_their_types()
@@ -27,4 +32,19 @@ pub fn accepted_expressions_are_never_stuck()
     ensures { (a : Expr) (scope : Scope) (x : Checked) (at : Surroundings) (locals : List CsType) (around : Setting) (s : State)
         → value_in scope a ≡ fine x → ScopeFits at locals scope → SettingHas at around → StateHas at.types locals s
         → IsDefined (meaning around x.code s) × Fits (no_jump at.types) (Typed at.types locals x.expr_type) (meaning around x.code s) }
+{}
+
+/// The code of an accepted body keeps to the body's signature.
+pub fn accepted_bodies_keep_to_their_signatures()
+    ensures { (types : Types) (body : Signature) (scope : Scope) (tree : Body) (code : Code)
+        → Accepts scope tree code → ScopeFits (surroundings_of types body) body.locals scope → scope.result ≡ body.result
+        → BodyHas types body code }
+{}
+
+/// The code of an accepted body is not stuck, over locals of its types: it gives a value of its result's type or a fault.
+pub fn accepted_bodies_are_never_stuck()
+    ensures { (types : Types) (body : Signature) (scope : Scope) (tree : Body) (code : Code) (around : Setting) (s : State)
+        → Accepts scope tree code → ScopeFits (surroundings_of types body) body.locals scope → scope.result ≡ body.result
+        → SettingHas (surroundings_of types body) around → StateHas types body.locals s
+        → IsDefined (body_meaning around code s) × Fits (no_jump types) (Left types body.result) (body_meaning around code s) }
 {}

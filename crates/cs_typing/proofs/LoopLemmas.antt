@@ -26,7 +26,7 @@ use Rattle.cs_typing.specs.Outcomes.{Fits, no_jump, leaving, Typed, Gives, Ended
 use Rattle.cs_typing.proofs.ValueKinds.{is_bool, is_list}
 use Rattle.cs_typing.proofs.ValueLists.{as_many, one_more, begin_all}
 use Rattle.cs_typing.proofs.Fitting.{then_fits, weaker_fits}
-use Rattle.cs_typing.proofs.ScopeLemmas.{Extends, or_true, Begun, all_begins, leaving_exactly, fewer_locals, no_jump_within, no_jumps_within, cut_fits, scoped_fits, scoped_does, expression_then, AllDo, all_extend, in_order_does}
+use Rattle.cs_typing.proofs.ScopeLemmas.{Extends, or_true, Begun, all_begins, leaving_exactly, fewer_locals, no_jump_within, cut_fits, scoped_fits, scoped_does, expression_then, AllDo, all_extend, in_order_does}
 
 module _ (types : Types) where
   -- a test of a loop: a truth, and true unless the loop may come to its end
@@ -84,13 +84,12 @@ module _ (types : Types) (result : CsType) where
   pub while_does : (j : Jumps) (locals inner : List CsType) (out ends : Truth) (test body : Meaning) → Extends locals inner → Tests types locals out test → Does types result (jumps out true) locals inner ends body → Does types result j locals locals out (while_loop test body)
   while_does j locals inner out ends test body e h g s hs = loop_fits j locals inner out ends test body nothing s e h g (no_step types locals) hs
 
-  pub for_does : (j : Jumps) (locals within inner : List CsType) (out ends : Truth) (start test step : Option Meaning) (body : Meaning)
-      → Extends locals within → Extends within inner → Does types result (jumps false false) locals within true (if_there start) → Tests types within out (test_of test) → StepsOn types within (if_there step) → Does types result (jumps out true) within inner ends body → Does types result j locals locals out (for_loop start test step body)
-  for_does j locals within inner out ends start test step body e e' h g k l s hs =
-      scoped_does types result j locals within out out (λ s1. and_then (if_there start s1) (λ x s2. loop (test_of test) body (if_there step) s2)) s e
-      (λ s1 hs1. then_fits (leaving types result j locals) (Ended types within true) (Ended types within out) (if_there start s1) (λ x s2. loop (test_of test) body (if_there step) s2)
-      (weaker_fits (leaving types result (jumps false false) locals) (leaving types result j locals) (Ended types within true) (Ended types within true) (if_there start s1) (no_jumps_within types result j locals) (λ x s2 m. m) (h s1 hs1))
-      (λ x s2 m. weaker_fits (leaving types result j within) (leaving types result j locals) (Ended types within out) (Ended types within out) (loop (test_of test) body (if_there step) s2) (fewer_locals types result j locals within e) (λ y s3 n. n)
+  pub for_does : (j : Jumps) (locals within inner : List CsType) (begins out total ends : Truth) (start test step : Option Meaning) (body : Meaning)
+      → Extends locals within → Extends within inner → Does types result j locals within begins (if_there start) → Tests types within out (test_of test) → StepsOn types within (if_there step) → Does types result (jumps out true) within inner ends body → (IsTrue begins → IsTrue out → IsTrue total) → Does types result j locals locals total (for_loop start test step body)
+  for_does j locals within inner begins out total ends start test step body e e' h g k l too s hs =
+      scoped_does types result j locals within total total (λ s1. and_then (if_there start s1) (λ x s2. loop (test_of test) body (if_there step) s2)) s e
+      (λ s1 hs1. then_fits (leaving types result j locals) (Ended types within begins) (Ended types within total) (if_there start s1) (λ x s2. loop (test_of test) body (if_there step) s2) (h s1 hs1)
+      (λ x s2 m. weaker_fits (leaving types result j within) (leaving types result j locals) (Ended types within out) (Ended types within total) (loop (test_of test) body (if_there step) s2) (fewer_locals types result j locals within e) (λ y s3 n. (too m.0 n.0, n.1))
       (loop_fits j within inner out ends (test_of test) body (if_there step) s2 e' g l k m.1)))
       (λ d. d) hs
 

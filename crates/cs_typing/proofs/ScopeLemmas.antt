@@ -14,7 +14,7 @@ use Rattle.cs_meaning.specs.Variables.{declared_as}
 use Rattle.cs_meaning.specs.Statements.{performed, block, branch, returned}
 use Rattle.cs_typing.specs.Types.{Types}
 use Rattle.cs_typing.specs.Values.{ValueHas, ValuesHave}
-use Rattle.cs_typing.specs.Statements.{Jumps, jumps}
+use Rattle.cs_typing.specs.Statements.{Jumps}
 use Rattle.cs_typing.specs.States.{Keeps, StateHas, StateBegins}
 use Rattle.cs_typing.specs.Outcomes.{Exits, Fits, no_jump, leaving, Typed, Gives, Ended, Does}
 use Rattle.cs_typing.proofs.ValueKinds.{is_bool}
@@ -72,10 +72,6 @@ module _ (types : Types) (result : CsType) where
   -- an expression is left by faults alone
   pub no_jump_within : (j : Jumps) (locals : List CsType) → Within (no_jump types) (leaving types result j locals)
   no_jump_within j locals = record { breaks_too = λ s h. absurd h; continues_too = λ s h. absurd h; returns_too = λ x s h. absurd h; faults_too = λ s h. h }
-
-  -- where no jump may stand
-  pub no_jumps_within : (j : Jumps) (locals : List CsType) → Within (leaving types result (jumps false false) locals) (leaving types result j locals)
-  no_jumps_within j locals = record { breaks_too = λ s h. no_truth h.0; continues_too = λ s h. no_truth h.0; returns_too = λ x s h. h; faults_too = λ s h. h }
 
   exactly_begins : (j : Jumps) (locals : List CsType) → Within (leaving_exactly j locals) (leaving types result j locals)
   exactly_begins j locals =

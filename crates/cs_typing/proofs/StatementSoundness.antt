@@ -41,9 +41,9 @@ extended : (place : Surroundings) (result : CsType) (j : Jumps) (locals inner : 
 extended place result j locals inner ends code (st.declare _ _ type a h) = (type ∷ [], refl)
 extended place result j locals inner ends code _ = extends_none locals
 
-started : (place : Surroundings) (result : CsType) (locals within : List CsType) (first : Option Code) → Starts place result locals within first → Extends locals within
-started place result locals within first (st.no_start _) = extends_none locals
-started place result locals within first (st.start _ _ a h) = extended place result (jumps false false) locals within true a h
+started : (place : Surroundings) (result : CsType) (j : Jumps) (locals within : List CsType) (begins : Truth) (first : Option Code) → Starts place result j locals within begins first → Extends locals within
+started place result j locals within begins first (st.no_start _ _) = extends_none locals
+started place result j locals within begins first (st.start _ _ _ _ a h) = extended place result j locals within begins a h
 
 module _ (place : Surroundings) (around : Setting) (stands : Stands place around) where
   -- tests and steps of loops
@@ -86,14 +86,14 @@ module _ (place : Surroundings) (around : Setting) (stands : Stands place around
       statement_does j locals inner ends code (st.forever _ _ within body_ends b g) =
           does place.types result j locals inner ends (meaning around code) (while_loop (meaning around (c.Bool true)) (meaning around b)) (law.while_law around (c.Bool true) b)
           (while_does place.types result j locals within false body_ends (meaning around (c.Bool true)) (meaning around b) (extended place result (jumps false true) locals within body_ends b g) (true_always locals) (statement_does (jumps false true) locals within body_ends b g))
-      statement_does j locals inner ends code (st.for_loop _ _ within last body_ends first condition step b begins h k g) =
+      statement_does j locals inner ends code (st.for_loop _ _ within last starts body_ends first condition step b begins h k g) =
           does place.types result j locals inner ends (meaning around code) (for_loop (option_map (meaning around) first) (option_map (meaning around) condition) (option_map (meaning around) step) (meaning around b)) (law.for_law around first condition step b)
-          (for_does place.types result j locals within last true body_ends (option_map (meaning around) first) (option_map (meaning around) condition) (option_map (meaning around) step) (meaning around b) (started place result locals within first begins) (extended place result (jumps true true) within last body_ends b g)
-          (start_does locals within first begins) (condition_tests within condition h) (steps_on within step k) (statement_does (jumps true true) within last body_ends b g))
-      statement_does j locals inner ends code (st.for_forever _ _ within last body_ends first condition step b begins h k g) =
+          (for_does place.types result j locals within last starts true starts body_ends (option_map (meaning around) first) (option_map (meaning around) condition) (option_map (meaning around) step) (meaning around b) (started place result j locals within starts first begins) (extended place result (jumps true true) within last body_ends b g)
+          (start_does j locals within starts first begins) (condition_tests within condition h) (steps_on within step k) (statement_does (jumps true true) within last body_ends b g) (λ d d'. d))
+      statement_does j locals inner ends code (st.for_forever _ _ within last starts body_ends first condition step b begins h k g) =
           does place.types result j locals inner ends (meaning around code) (for_loop (option_map (meaning around) first) (option_map (meaning around) condition) (option_map (meaning around) step) (meaning around b)) (law.for_law around first condition step b)
-          (for_does place.types result j locals within last false body_ends (option_map (meaning around) first) (option_map (meaning around) condition) (option_map (meaning around) step) (meaning around b) (started place result locals within first begins) (extended place result (jumps false true) within last body_ends b g)
-          (start_does locals within first begins) (always_tests within condition h) (steps_on within step k) (statement_does (jumps false true) within last body_ends b g))
+          (for_does place.types result j locals within last starts false false body_ends (option_map (meaning around) first) (option_map (meaning around) condition) (option_map (meaning around) step) (meaning around b) (started place result j locals within starts first begins) (extended place result (jumps false true) within last body_ends b g)
+          (start_does j locals within starts first begins) (always_tests within condition h) (steps_on within step k) (statement_does (jumps false true) within last body_ends b g) (λ d d'. d'))
       statement_does j locals inner ends code (st.for_each _ _ within body_ends type a b h g) =
           does place.types result j locals inner ends (meaning around code) (for_each (meaning around a) (meaning around b)) (law.for_each_law around a b)
           (for_each_does place.types result j locals within body_ends type (meaning around a) (meaning around b) (extends_both locals (locals ++ type ∷ []) within (type ∷ [], refl) (extended place result (jumps true true) (locals ++ type ∷ []) within body_ends b g)) (expression_gives place around stands locals (t.List type) a h) (statement_does (jumps true true) (locals ++ type ∷ []) within body_ends b g))
@@ -115,9 +115,9 @@ module _ (place : Surroundings) (around : Setting) (stands : Stands place around
       all_do j locals inner ends codes (st.more _ _ between _ one_ends others_end one others h hs) =
           scope.more j locals between inner one_ends others_end (meaning around one) (map (meaning around) others) (extended place result j locals between one_ends one h) (statement_does j locals between one_ends one h) (all_do j between inner others_end others hs)
 
-      start_does : (locals within : List CsType) (first : Option Code) → Starts place result locals within first → Does place.types result (jumps false false) locals within true (if_there (option_map (meaning around) first))
-      start_does locals within first (st.no_start _) = λ s hs. (refl, hs)
-      start_does locals within first (st.start _ _ a h) = statement_does (jumps false false) locals within true a h
+      start_does : (j : Jumps) (locals within : List CsType) (begins : Truth) (first : Option Code) → Starts place result j locals within begins first → Does place.types result j locals within begins (if_there (option_map (meaning around) first))
+      start_does j locals within begins first (st.no_start _ _) = λ s hs. (refl, hs)
+      start_does j locals within begins first (st.start _ _ _ _ a h) = statement_does j locals within begins a h
 
       sections_do : (j : Jumps) (locals : List CsType) (ends default : Truth) (codes : List Code) → SectionsRun place result j locals ends default codes → SectionsDo place.types result (map (meaning around)) j locals ends default (sections_of codes)
       sections_do j locals ends default codes (st.no_section _ _) = loop.no_section j locals

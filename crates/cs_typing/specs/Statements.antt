@@ -47,11 +47,11 @@ mutual
         CodeHas at locals t.Bool a → Runs at result (jumps true true) locals inner ends b → Runs at result j locals locals true (c.While a b)
     forever : (j : Jumps) (locals inner : List CsType) (ends : Bool) (b : Code) →
         Runs at result (jumps false true) locals inner ends b → Runs at result j locals locals false (c.While (c.Bool true) b)
-    for_loop : (j : Jumps) (locals within inner : List CsType) (ends : Bool) (first condition step : Option Code) (b : Code) →
-        Starts at result locals within first → Condition at within condition → Stepping at within step →
-        Runs at result (jumps true true) within inner ends b → Runs at result j locals locals true (c.For first condition step b)
-    for_forever : (j : Jumps) (locals within inner : List CsType) (ends : Bool) (first condition step : Option Code) (b : Code) →
-        Starts at result locals within first → Always condition → Stepping at within step →
+    for_loop : (j : Jumps) (locals within inner : List CsType) (begins ends : Bool) (first condition step : Option Code) (b : Code) →
+        Starts at result j locals within begins first → Condition at within condition → Stepping at within step →
+        Runs at result (jumps true true) within inner ends b → Runs at result j locals locals begins (c.For first condition step b)
+    for_forever : (j : Jumps) (locals within inner : List CsType) (begins ends : Bool) (first condition step : Option Code) (b : Code) →
+        Starts at result j locals within begins first → Always condition → Stepping at within step →
         Runs at result (jumps false true) within inner ends b → Runs at result j locals locals false (c.For first condition step b)
     for_each : (j : Jumps) (locals inner : List CsType) (ends : Bool) (type : CsType) (a b : Code) →
         CodeHas at locals (t.List type) a → Runs at result (jumps true true) (locals ++ type ∷ []) inner ends b → Runs at result j locals locals true (c.ForEach a b)
@@ -72,9 +72,9 @@ mutual
         AllRun at result j locals inner (ends && others_end) (one ∷ others)
 
   -- the start of a `for`, or none
-  pub data Starts (at : Surroundings) (result : CsType) : List CsType → List CsType → Option Code → Type 0 where
-    no_start : (locals : List CsType) → Starts at result locals locals None
-    start : (locals within : List CsType) (a : Code) → Runs at result (jumps false false) locals within true a → Starts at result locals within (Some a)
+  pub data Starts (at : Surroundings) (result : CsType) : Jumps → List CsType → List CsType → Bool → Option Code → Type 0 where
+    no_start : (j : Jumps) (locals : List CsType) → Starts at result j locals locals true None
+    start : (j : Jumps) (locals within : List CsType) (ends : Bool) (a : Code) → Runs at result j locals within ends a → Starts at result j locals within ends (Some a)
 
   -- the sections of a `switch`: whether the end of one can be reached, and whether one has `default`
   pub data SectionsRun (at : Surroundings) (result : CsType) : Jumps → List CsType → Bool → Bool → List Code → Type 0 where
