@@ -12,3 +12,4 @@ pub mod LoopLemmas
 pub mod ExpressionSoundness
 pub mod StatementSoundness
 pub mod BodySoundness
+pub mod InstanceLemmas

@@ -37,3 +37,7 @@ pub data ValuesBegin (types : Types) : List CsType → List Value → Type 0 whe
 -- the outermost locals have these types, and further ones may follow
 abbrev pub StateBegins : Types → List CsType → State → Type 0
 StateBegins types locals s = ValuesBegin types locals s.locals × Keeps types s
+
+-- instances that are there are still there, of the same component
+abbrev pub Remain : (ℕ → Option ℕ) → (ℕ → Option ℕ) → Type 0
+Remain instances later = (who component : ℕ) → instances who ≡ Some component → later who ≡ Some component

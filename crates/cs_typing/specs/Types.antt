@@ -21,3 +21,7 @@ pub record Types : Type 0 where
   pub bodies : ℕ → Option Signature
   pub templates : ℕ → Option Signature
   pub instances : ℕ → Option ℕ
+
+-- the same, where these instances are there
+abbrev pub with_instances : Types → (ℕ → Option ℕ) → Types
+with_instances types instances = record types { instances = instances }

@@ -10,5 +10,5 @@ mod laws;
 
 pub use laws::{
     typed_bodies_are_never_stuck, typed_expressions_are_never_stuck,
-    typed_statements_are_never_stuck,
+    typed_statements_are_never_stuck, values_keep_their_types_among_more_instances,
 };
