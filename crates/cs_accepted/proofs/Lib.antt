@@ -5,9 +5,10 @@ pub mod NameLemmas
 pub mod ExpressionForms
 pub mod ChangeForms
 pub mod ExpressionTrees
-pub mod LawLemmas
+pub mod ExpressionLaws
 pub mod ScopeLemmas
 pub mod StatementForms
 pub mod LoopForms
 pub mod StatementTrees
 pub mod BodyLemmas
+pub mod SpelledLemmas

@@ -63,20 +63,20 @@ true_always a e s =
 abbrev StatementLayer : Type 0
 StatementLayer = StmtKind-F Body ExprKind StmtKind TextPart Expr Section Stmt WithPart
 
-leaves_law : (a : Stmt) → leaves a ≡ leaves_of_kind a.kind
+pub leaves_law : (a : Stmt) → leaves a ≡ leaves_of_kind a.kind
 unfolding leaves leaves_of_kind
 leaves_law a =
     fold_out-Stmt (Unit {0}) Bool Leaves (Unit {0}) Bool SectionLeaves Leaves (Unit {0})
     (λ body. tt) true_form leaves_form (λ it. tt) (λ it. it.kind) (λ it. section_of (has_default it.labels) (leave.in_order it.body)) (λ it. it.kind) (λ it. tt) a
 
-leaves_at : (kind : StmtKind) (x : StatementLayer) → roll-StmtKind x ≡ kind → leaves_of_kind kind ≡ leaves_form (map-StmtKind Body ExprKind StmtKind TextPart Expr Section Stmt WithPart (Unit {0}) Bool Leaves (Unit {0}) Bool SectionLeaves Leaves (Unit {0}) (λ z. tt) is_true_kind leaves_of_kind (λ z. tt) is_true section_leaves leaves (λ z. tt) x)
+pub leaves_at : (kind : StmtKind) (x : StatementLayer) → roll-StmtKind x ≡ kind → leaves_of_kind kind ≡ leaves_form (map-StmtKind Body ExprKind StmtKind TextPart Expr Section Stmt WithPart (Unit {0}) Bool Leaves (Unit {0}) Bool SectionLeaves Leaves (Unit {0}) (λ z. tt) is_true_kind leaves_of_kind (λ z. tt) is_true section_leaves leaves (λ z. tt) x)
 unfolding is_true is_true_kind leaves leaves_of_kind section_leaves
 leaves_at kind x is =
     ap leaves_of_kind (sym is)
     ∙ fold-roll-StmtKind (Unit {0}) Bool Leaves (Unit {0}) Bool SectionLeaves Leaves (Unit {0})
     (λ body. tt) true_form leaves_form (λ it. tt) (λ it. it.kind) (λ it. section_of (has_default it.labels) (leave.in_order it.body)) (λ it. it.kind) (λ it. tt) x
 
-section_leaves_law : (a : Section) → section_leaves a ≡ section_of (has_default (out-Section a).labels) (leave.in_order (map leaves (out-Section a).body))
+pub section_leaves_law : (a : Section) → section_leaves a ≡ section_of (has_default (out-Section a).labels) (leave.in_order (map leaves (out-Section a).body))
 unfolding leaves section_leaves
 section_leaves_law a =
     fold_out-Section (Unit {0}) Bool Leaves (Unit {0}) Bool SectionLeaves Leaves (Unit {0})

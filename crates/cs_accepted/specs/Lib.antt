@@ -3,3 +3,4 @@ pub mod Accepted
 pub mod Leaves
 pub mod Sound
 pub mod Bodies
+pub mod Programs
