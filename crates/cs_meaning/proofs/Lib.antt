@@ -5,3 +5,4 @@ pub mod RecursionLaws
 pub mod EqualityLemmas
 pub mod KindLemmas
 pub mod UnitLaws
+pub mod FirstFormLemmas

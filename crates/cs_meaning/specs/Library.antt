@@ -1,6 +1,5 @@
 -- The members of the library.
-use Rattle.std.specs.Prelude.{ℕ, pos, ◌+◌, nat_le, ◌==◌, if◌then◌else◌, List, [], ◌∷◌, ◌++◌, length, count_by, slice_set, insert, remove, true, false}
-use Rattle.std.specs.Int.{int_wrap, w32}
+use Rattle.std.specs.Prelude.{ℕ, pos, ◌+◌, ◌-◌, ◌^◌, min, nat_le, ◌==◌, if◌then◌else◌, List, [], ◌∷◌, ◌++◌, length, count_by, slice_set, insert, remove, true, false}
 use Rattle.cs_ast.specs.Texts.{text_of}
 use Rattle.cs_ast.specs.declared.value.Value.{Value}
 use Rattle.cs_ast.specs.declared.value.Value.TheVariants as v
@@ -25,9 +24,9 @@ abbrev pub three_of : List Value → State → Outcome (Value × Value × Value)
 three_of (x ∷ y ∷ z ∷ []) s = gives (x, y, z) s
 three_of _ s = stuck
 
--- a count as a number of 32 bits
+-- a count as a number, or the greatest number where it is greater
 abbrev pub counted : ℕ → Meaning
-counted n s = gives (v.Int (int_wrap w32 (pos n))) s
+counted n s = gives (v.Int (pos (min n (2 ^ 31 - 1)))) s
 
 -- the UTF-16 units of a text: two for a character from U+10000 on, one for any other
 abbrev pub utf16_units : List ℕ → ℕ
