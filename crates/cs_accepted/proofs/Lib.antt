@@ -12,3 +12,4 @@ pub mod LoopForms
 pub mod StatementTrees
 pub mod BodyLemmas
 pub mod SpelledLemmas
+pub mod InstanceProgram

@@ -1,5 +1,5 @@
 // Laws of accepted code. Each function does nothing: its contract is the law.
-ghost use Rattle.std.specs.Prelude.{◌≡◌, false, List};
+ghost use Rattle.std.specs.Prelude.{◌≡◌, ℕ, false, List, Option};
 ghost use Rattle.cs_ast.specs.declared.code.Code.{Code};
 ghost use Rattle.cs_ast.specs.declared.cs_type.CsType.{CsType};
 ghost use Rattle.cs_ast.specs.declared.expression.Expr.{Expr};
@@ -13,7 +13,7 @@ ghost use Rattle.cs_rules.specs.declared.checked.Checked.{Checked};
 ghost use Rattle.cs_rules.specs.Judged.{fine};
 ghost use Rattle.cs_rules.specs.Trees.{value_in};
 ghost use Rattle.cs_token.specs.declared.token.Token.{Token};
-ghost use Rattle.cs_typing.specs.Types.{Types, Signature};
+ghost use Rattle.cs_typing.specs.Types.{Types, Signature, with_instances};
 ghost use Rattle.cs_typing.specs.Expressions.{Surroundings};
 ghost use Rattle.cs_typing.specs.Bodies.{surroundings_of, BodyHas};
 ghost use Rattle.cs_typing.specs.States.{StateHas};
@@ -21,7 +21,7 @@ ghost use Rattle.cs_typing.specs.Outcomes.{Fits, no_jump, Left};
 ghost use Rattle.cs_accepted.specs.Scopes.{ScopeFits};
 ghost use Rattle.cs_accepted.specs.Accepted.{ValueFits, Typed};
 ghost use Rattle.cs_accepted.specs.Bodies.{body_leaves};
-ghost use Rattle.cs_accepted.specs.Programs.{AcceptedAs, SettingAccepted};
+ghost use Rattle.cs_accepted.specs.Programs.{AcceptedAs, ProgramAccepted, SettingAccepted};
 
 /// The code of an expression that breaks no rule has the expression's type.
 pub fn accepted_expressions_have_their_types()
@@ -48,6 +48,12 @@ pub fn accepted_bodies_are_never_stuck()
     ensures { (types : Types) (body : Signature) (code : Code) (around : Setting) (s : State)
         → SettingAccepted (surroundings_of types body) around → AcceptedAs types body code → StateHas types body.locals s
         → IsDefined (body_meaning around code s) × Fits (no_jump types) (Left types body.result) (body_meaning around code s) }
+{}
+
+/// A program stays accepted where other instances are there.
+pub fn programs_stay_accepted_among_other_instances()
+    ensures { (types : Types) (instances : ℕ → Option ℕ) (bodies : List (ℕ × Code))
+        → ProgramAccepted types bodies → ProgramAccepted (with_instances types instances) bodies }
 {}
 
 /// No jump leaves the statements that tokens spell outside all loops.

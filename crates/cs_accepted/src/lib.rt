@@ -10,5 +10,5 @@ mod laws;
 pub use laws::{
     accepted_bodies_are_never_stuck, accepted_bodies_keep_to_their_signatures,
     accepted_expressions_are_never_stuck, accepted_expressions_have_their_types,
-    no_jump_leaves_a_spelled_body,
+    no_jump_leaves_a_spelled_body, programs_stay_accepted_among_other_instances,
 };
