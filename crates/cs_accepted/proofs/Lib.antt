@@ -1,0 +1,15 @@
+pub mod Judging
+pub mod TypeLemmas
+pub mod OperatorLemmas
+pub mod NameLemmas
+pub mod ExpressionForms
+pub mod ChangeForms
+pub mod ExpressionTrees
+pub mod ExpressionLaws
+pub mod ScopeLemmas
+pub mod StatementForms
+pub mod LoopForms
+pub mod StatementTrees
+pub mod BodyLemmas
+pub mod SpelledLemmas
+pub mod InstanceProgram

@@ -1,0 +1,9 @@
+pub mod Judged
+pub mod Types
+pub mod Names
+pub mod Written
+pub mod Library
+pub mod Operators
+pub mod Expressions
+pub mod Statements
+pub mod Trees

@@ -1,0 +1,26 @@
+/// What a program may break, in the order in which of several at one place the first is told.
+#[derive(Clone, Copy, Debug, PartialEq, Eq)]
+pub enum Rule {
+    DuplicateComponent,
+    BadComponentName,
+    DuplicateName,
+    UnknownComponent,
+    UnknownParameter,
+    DuplicateAttribute,
+    MixedContent,
+    UnknownName,
+    UnknownType,
+    TypeMismatch,
+    NotAssigned,
+    ParameterAssigned,
+    ForCapture,
+    ChangedCapture,
+    ImpureTemplate,
+    CallbackInLifecycle,
+    LoopJump,
+    BadKey,
+    BadBind,
+    BadLifecycle,
+    MissingReturn,
+    RecursiveRecord,
+}

@@ -1,0 +1,15 @@
+pub mod ValueKinds
+pub mod Fitting
+pub mod ValueLists
+pub mod Reading
+pub mod OperatorLemmas
+pub mod ListLemmas
+pub mod LibraryLemmas
+pub mod CallLemmas
+pub mod VariableLemmas
+pub mod ScopeLemmas
+pub mod LoopLemmas
+pub mod ExpressionSoundness
+pub mod StatementSoundness
+pub mod BodySoundness
+pub mod InstanceLemmas

@@ -1,0 +1,9 @@
+pub mod Types
+pub mod Values
+pub mod Operators
+pub mod Expressions
+pub mod Statements
+pub mod Bodies
+pub mod States
+pub mod Outcomes
+pub mod Settings
