@@ -1,4 +1,2 @@
 pub mod Laws
 pub mod TypeLaws
-pub mod SameType
-pub mod WrittenLaws

@@ -124,21 +124,18 @@ member_or_null a name place s = do
   found ← dotted s x name
   null_member place x found
 
--- values one after another fit where others are wanted
-abbrev pub all_fit : List CsType → List Checked → Judged (Unit {0})
-all_fit [] xs = fine tt
-all_fit (wanted ∷ others) [] = fine tt
-all_fit (wanted ∷ others) (x ∷ xs) = do
-  first ← wants wanted x.place x.expr_type
-  all_fit others xs
+-- values one after another where others are wanted
+abbrev pub all_fitting : List CsType → List Checked → Judged (List Code)
+all_fitting [] xs = fine []
+all_fitting (wanted ∷ others) [] = fine []
+all_fitting (wanted ∷ others) (x ∷ xs) = do
+  code ← fitting wanted x
+  codes ← all_fitting others xs
+  fine (code ∷ codes)
 
 -- arguments: as many as are wanted, each fitting
 abbrev pub passed : Place → List CsType → List Checked → Judged (List Code)
-passed place takes xs =
-    if length takes == length xs then (do
-      fit ← all_fit takes xs
-      fine (map (λ x. x.code) xs))
-    else mismatch place
+passed place takes xs = if length takes == length xs then all_fitting takes xs else mismatch place
 
 unfoldable pub call : (Scope → Judged Callee) → List Value → Place → Value
 call target arguments place s = do
@@ -160,47 +157,20 @@ record_of records (Of (t.Rec name)) = record_named records name
 record_of records _ = None
 
 -- a new value of a part: the position and the type of the part, and the value
-pub record Replacing : Type 0 where
-  pub number : ℕ
-  pub wanted : CsType
-  pub value : Checked
-
-unfoldable pub replacing : Scope → Declared → Given → Judged Replacing
+abbrev pub replacing : Scope → Declared → Given → Judged ((ℕ × CsType) × Checked)
 replacing s found given = do
   part ← known UnknownName given.name.place (part_from 0 given.name.name found.parts)
   x ← given.value s
-  fine (record { number = part.0; wanted = part.1; value = x })
-
--- new values of parts, in order
-pub record Replaced : Type 0 where
-  pub positions : List ℕ
-  pub wanted : List CsType
-  pub values : List Checked
-
-abbrev pub replacements : Scope → Declared → List Given → Judged Replaced
-replacements s found [] = fine (record { positions = []; wanted = []; values = [] })
-replacements s found (given ∷ others) = do
-  one ← replacing s found given
-  more ← replacements s found others
-  fine (record { positions = one.number ∷ more.positions; wanted = one.wanted ∷ more.wanted; values = one.value ∷ more.values })
-
--- the values are looked at all the same where what stands before `with` is no record
-abbrev pub of_no_record : List Given → Place → Value
-of_no_record [] place s = mismatch place
-of_no_record (given ∷ others) place s = do
-  x ← given.value s
-  of_no_record others place s
-
-abbrev pub with_replaced : Checked → Place → Replaced → Judged Checked
-with_replaced x place replaced = do
-  fit ← all_fit replaced.wanted replaced.values
-  fine (record { place = place; code = c.With x.code replaced.positions (map (λ y. y.code) replaced.values); expr_type = x.expr_type })
+  fine (part, x)
 
 abbrev pub with_parts : Option Declared → List Given → Checked → Place → Value
-with_parts None parts x place s = of_no_record parts x.place s
+with_parts None parts x place s = do
+  xs ← each (λ given. given.value s) parts
+  mismatch x.place
 with_parts (Some found) parts x place s = do
-  replaced ← replacements s found parts
-  with_replaced x place replaced
+  replaced ← each (replacing s found) parts
+  codes ← all_fitting (map (λ one. one.0.1) replaced) (map (λ one. one.1) replaced)
+  fine (record { place = place; code = c.With x.code (map (λ one. one.0.0) replaced) codes; expr_type = x.expr_type })
 
 unfoldable pub with_of : Value → List Given → Place → Value
 with_of a parts place s = do
