@@ -1,2 +1,4 @@
 pub mod Laws
 pub mod TypeLaws
+pub mod SameType
+pub mod WrittenLaws

@@ -124,18 +124,21 @@ member_or_null a name place s = do
   found ← dotted s x name
   null_member place x found
 
--- values one after another where others are wanted
-abbrev pub all_fitting : List CsType → List Checked → Judged (List Code)
-all_fitting [] xs = fine []
-all_fitting (wanted ∷ others) [] = fine []
-all_fitting (wanted ∷ others) (x ∷ xs) = do
-  code ← fitting wanted x
-  codes ← all_fitting others xs
-  fine (code ∷ codes)
+-- values one after another fit where others are wanted
+abbrev pub all_fit : List CsType → List Checked → Judged (Unit {0})
+all_fit [] xs = fine tt
+all_fit (wanted ∷ others) [] = fine tt
+all_fit (wanted ∷ others) (x ∷ xs) = do
+  first ← wants wanted x.place x.expr_type
+  all_fit others xs
 
 -- arguments: as many as are wanted, each fitting
 abbrev pub passed : Place → List CsType → List Checked → Judged (List Code)
-passed place takes xs = if length takes == length xs then all_fitting takes xs else mismatch place
+passed place takes xs =
+    if length takes == length xs then (do
+      fit ← all_fit takes xs
+      fine (map (λ x. x.code) xs))
+    else mismatch place
 
 unfoldable pub call : (Scope → Judged Callee) → List Value → Place → Value
 call target arguments place s = do
@@ -169,8 +172,8 @@ with_parts None parts x place s = do
   mismatch x.place
 with_parts (Some found) parts x place s = do
   replaced ← each (replacing s found) parts
-  codes ← all_fitting (map (λ one. one.0.1) replaced) (map (λ one. one.1) replaced)
-  fine (record { place = place; code = c.With x.code (map (λ one. one.0.0) replaced) codes; expr_type = x.expr_type })
+  fit ← all_fit (map (λ one. one.0.1) replaced) (map (λ one. one.1) replaced)
+  fine (record { place = place; code = c.With x.code (map (λ one. one.0.0) replaced) (map (λ one. one.1.code) replaced); expr_type = x.expr_type })
 
 unfoldable pub with_of : Value → List Given → Place → Value
 with_of a parts place s = do

@@ -65,6 +65,9 @@ abbrev pub of_callbacks : Option CsType → List (List ℕ × Dotted)
 of_callbacks argument =
     (codes "HasDelegate", dotted.Property library.HasDelegate t.Bool) ∷ (codes "InvokeAsync", dotted.Invoke (argument_types argument)) ∷ []
 
+abbrev pub of_changes : List (List ℕ × Dotted)
+of_changes = (codes "Value", dotted.Property library.ChangeValue t.Text) ∷ []
+
 -- what a name stands for behind a dot, by the type before it
 abbrev pub behind_level : List Member → CsType-F CsType → List ℕ → Option Dotted
 behind_level records CsType-F.Int name = entry name of_all
@@ -73,7 +76,7 @@ behind_level records CsType-F.Text name = entry name of_texts
 behind_level records (CsType-F.Rec record_name) name = part_named (record_named records record_name) name
 behind_level records (CsType-F.List item) name = entry name (of_lists item)
 behind_level records (CsType-F.Callback argument) name = entry name (of_callbacks argument)
-behind_level records CsType-F.Change name = entry name ((codes "Value", dotted.Property library.ChangeValue t.Text) ∷ [])
+behind_level records CsType-F.Change name = entry name of_changes
 behind_level records _ name = None
 
 abbrev pub behind : List Member → CsType → List ℕ → Option Dotted

@@ -78,6 +78,32 @@ is_value (Of given) = has_values given
 is_value Null = true
 is_value Markup = false
 
+-- both sides of one type
+abbrev pub alike : CsType → CsType → Place → ExprType → Place → ExprType → Judged ExprType
+alike taken given first a second b = do
+  x ← wants taken first a
+  y ← wants taken second b
+  fine (Of given)
+
+-- `+` joins where a text is on one side, and else it adds
+abbrev pub sum_type : Place → ExprType → Place → ExprType → Judged ExprType
+sum_type first a second b =
+    if is_text a || is_text b then (do
+      x ← shown first a
+      y ← shown second b
+      fine (Of t.Text))
+    else alike t.Int t.Int first a second b
+
+-- the type of either of two values
+abbrev pub either_type : Bool → Place → ExprType → Place → ExprType → Judged ExprType
+either_type allowed first a second b = if allowed then known TypeMismatch second (common_type a b) else mismatch first
+
+-- an operator that takes one type on both sides
+abbrev pub plain_type : BinaryOp → Place → ExprType → Place → ExprType → Judged ExprType
+plain_type op first a second b = do
+  taken ← known TypeMismatch first (taken_type op)
+  alike taken (given_type op) first a second b
+
 module _ (records : List Member) where
   -- what may be compared with something
   abbrev pub may_compare : ExprType → Bool
@@ -93,26 +119,6 @@ module _ (records : List Member) where
   are_compared Null Null = true
   are_compared _ _ = false
 
-  -- both sides of one type
-  abbrev pub alike : CsType → CsType → Place → ExprType → Place → ExprType → Judged ExprType
-  alike taken given first a second b = do
-    x ← wants taken first a
-    y ← wants taken second b
-    fine (Of given)
-
-  -- `+` joins where a text is on one side, and else it adds
-  abbrev pub sum_type : Place → ExprType → Place → ExprType → Judged ExprType
-  sum_type first a second b =
-      if is_text a || is_text b then (do
-        x ← shown first a
-        y ← shown second b
-        fine (Of t.Text))
-      else alike t.Int t.Int first a second b
-
-  -- the type of either of two values
-  abbrev pub either_type : Bool → Place → ExprType → Place → ExprType → Judged ExprType
-  either_type allowed first a second b = if allowed then known TypeMismatch second (common_type a b) else mismatch first
-
   abbrev pub comparison_type : Place → ExprType → Place → ExprType → Judged ExprType
   comparison_type first a second b =
       if may_compare a then (if are_compared a b then fine (Of t.Bool) else mismatch second) else mismatch first
@@ -123,9 +129,7 @@ module _ (records : List Member) where
   binary_type binary.Equal first a second b = comparison_type first a second b
   binary_type binary.NotEqual first a second b = comparison_type first a second b
   binary_type binary.Coalesce first a second b = either_type (is_nullable a) first a second b
-  binary_type op first a second b = do
-    taken ← known TypeMismatch first (taken_type op)
-    alike taken (given_type op) first a second b
+  binary_type op first a second b = plain_type op first a second b
 
 -- the operator of `+=` and its kin
 abbrev pub operator_of : AssignOp → Option BinaryOp
