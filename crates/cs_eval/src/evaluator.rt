@@ -5,21 +5,20 @@ ghost use Rattle.cs_meaning.specs.Meaning.{behind};
 ghost use Rattle.cs_eval.specs.Agrees.{Agrees, meaning_in, reached, setting_in};
 
 use crate::calls::{call, invoke};
-use crate::charging::{made, new_text};
 use crate::exit::Exit;
-use crate::expressions::{all, assign, binary, conditional, record_with};
+use crate::expressions::{assign, binary, conditional, record_with};
 use crate::loops::{for_each, for_loop, while_loop};
-use crate::operators::{cast, of_value};
+use crate::operands::{
+    casted, fill, index, interpolated, member_call, new_record, null_part, part, unary,
+};
 use crate::progress::{Around, Progress};
-use crate::reading::{captured, found, indexed, part_of, part_or_null, with_capture};
-use crate::statements::{block, branch, optional, switch};
-use crate::library::library;
+use crate::reading::{captured, found};
+use crate::statements::{block, branch, declare, perform, returned, switch};
 use crate::store::Store;
-use crate::texts::all_joined;
 use crate::variables::{bound, stepped};
 use cs_ast::{Code, Value};
 use cs_meaning::Fault;
-use sqlite_items::{Boxed, Items, at as item_at};
+use sqlite_items::{Boxed, at as item_at};
 
 /// Code that may be absent.
 fn as_code(code: &Option<Boxed<Code>>) -> Option<&Code>
@@ -82,12 +81,9 @@ fn act<S: Store>(
         Code::Field(at) => found(alloc, store.get(around.who, *at)),
         Code::Parameter(at) => found(alloc, store.parameter_of(around.who, *at)),
         Code::Local(at) => found(alloc, item_at(progress.locals.as_slice(), *at as usize)),
-        Code::Interpolated(pieces) => {
-            let values = all(around, pieces.as_slice(), progress, store)?;
-            new_text(all_joined(alloc, values.as_slice())?, progress)
-        }
-        Code::Unary(op, a) => of_value(*op, &evaluate(around, a.get(), progress, store)?),
-        Code::Cast(op, a) => cast(*op, evaluate(around, a.get(), progress, store)?),
+        Code::Interpolated(pieces) => interpolated(around, pieces.as_slice(), progress, store),
+        Code::Unary(op, a) => unary(around, *op, a.get(), progress, store),
+        Code::Cast(op, a) => casted(around, *op, a.get(), progress, store),
         Code::Binary(op, a, b) => binary(around, *op, a.get(), b.get(), progress, store),
         Code::Conditional(a, b, c) => {
             conditional(around, a.get(), b.get(), c.get(), progress, store)
@@ -96,21 +92,12 @@ fn act<S: Store>(
             let (positions, values) = (positions.as_slice(), values.as_slice());
             record_with(around, a.get(), positions, values, progress, store)
         }
-        Code::Part(a, at) => part_of(alloc, *at, evaluate(around, a.get(), progress, store)?),
-        Code::NullPart(a, at) => part_or_null(alloc, *at, evaluate(around, a.get(), progress, store)?),
-        Code::Index(a, b) => {
-            let list = evaluate(around, a.get(), progress, store)?;
-            let index = evaluate(around, b.get(), progress, store)?;
-            indexed(alloc, list, &index)
-        }
-        Code::New(kind, parts) => {
-            let values = all(around, parts.as_slice(), progress, store)?;
-            let parts = Items::from_vec(values);
-            made(Value::Rec { kind: *kind, parts }, progress)
-        }
+        Code::Part(a, at) => part(around, a.get(), *at, progress, store),
+        Code::NullPart(a, at) => null_part(around, a.get(), *at, progress, store),
+        Code::Index(a, b) => index(around, a.get(), b.get(), progress, store),
+        Code::New(kind, parts) => new_record(around, *kind, parts.as_slice(), progress, store),
         Code::Library(member, arguments) => {
-            let values = all(around, arguments.as_slice(), progress, store)?;
-            library(alloc, *member, values, progress)
+            member_call(around, *member, arguments.as_slice(), progress, store)
         }
         Code::Call(number, arguments) => {
             call(around, *number, arguments.as_slice(), progress, store)
@@ -118,21 +105,13 @@ fn act<S: Store>(
         Code::Callback(number, positions) => {
             captured(around, *number, positions.as_slice(), progress)
         }
-        Code::Fill(a, b) => {
-            let fragment = evaluate(around, a.get(), progress, store)?;
-            let more = evaluate(around, b.get(), progress, store)?;
-            with_capture(fragment, more)
-        }
+        Code::Fill(a, b) => fill(around, a.get(), b.get(), progress, store),
         Code::Invoke(a, argument) => {
             invoke(around, a.get(), as_code(argument), progress, store)
         }
         Code::Assign(target, op, e) => assign(around, *target, *op, e.get(), progress, store),
         Code::Step(target, op) => stepped(around, *target, *op, progress, store),
-        Code::Declare(e) => {
-            let value = evaluate(around, e.get(), progress, store)?;
-            progress.locals.push(value)?;
-            Ok(Value::Null)
-        }
+        Code::Declare(e) => declare(around, e.get(), progress, store),
         Code::Empty => Ok(Value::Null),
         Code::Block(statements) => block(around, statements.as_slice(), progress, store),
         Code::If(test, yes, no) => {
@@ -144,19 +123,11 @@ fn act<S: Store>(
             for_loop(around, start, test, step, body.get(), progress, store)
         }
         Code::ForEach(list, body) => for_each(around, list.get(), body.get(), progress, store),
-        Code::Switch(value, sections) => {
-            switch(around, value.get(), sections.as_slice(), progress, store)
-        }
+        Code::Switch(value, sections) => switch(around, value, sections, progress, store),
         Code::Break => Err(Exit::Break),
         Code::Continue => Err(Exit::Continue),
-        Code::Return(e) => {
-            let value = optional(around, as_code(e), progress, store)?;
-            Err(Exit::Return(value))
-        }
-        Code::Perform(e) => {
-            evaluate(around, e.get(), progress, store)?;
-            Ok(Value::Null)
-        }
+        Code::Return(e) => returned(around, as_code(e), progress, store),
+        Code::Perform(e) => perform(around, e.get(), progress, store),
         Code::Piece(_) => Err(Exit::Stuck),
         Code::Bind(..) => Err(Exit::Stuck),
         Code::Section(..) => Err(Exit::Stuck),

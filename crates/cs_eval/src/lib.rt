@@ -14,6 +14,7 @@ mod expressions;
 mod kinds;
 mod library;
 mod loops;
+mod operands;
 mod operators;
 mod owners;
 mod progress;

@@ -179,12 +179,7 @@ fn list_remove(list: Value, place: &Value, progress: &mut Progress) -> Result<Va
     made(Value::List(items), progress)
 }
 
-fn list_set(
-    list: Value,
-    place: &Value,
-    item: Value,
-    progress: &mut Progress,
-) -> Result<Value, Exit>
+fn list_set(list: Value, place: &Value, item: Value, progress: &mut Progress) -> Result<Value, Exit>
     ensures means { (fields : Fields) → Agrees result (reached progress.new fields) (spec.list_set list place.now item (reached progress.old fields)) }
     ensures spent { progress.new.left ≤ progress.old.left }
 {

@@ -71,11 +71,8 @@ pub(crate) fn of_numbers(op: BinaryOp, x: i32, y: i32) -> Result<Value, Exit>
         BinaryOp::Multiply => Ok(Value::Int(product(x, y))),
         BinaryOp::Divide => quotient(x, y),
         BinaryOp::Remainder => remainder(x, y),
-        BinaryOp::Coalesce
-        | BinaryOp::Or
-        | BinaryOp::And
-        | BinaryOp::Equal
-        | BinaryOp::NotEqual => Err(Exit::Stuck),
+        BinaryOp::Coalesce | BinaryOp::Or | BinaryOp::And | BinaryOp::Equal | BinaryOp::NotEqual =>
+            Err(Exit::Stuck),
     }
 }
 
@@ -95,12 +92,7 @@ fn may_be_text(value: &Value) -> bool
     is_null(value) || string(value).is_some()
 }
 
-fn added(
-    alloc: Global,
-    x: &Value,
-    y: &Value,
-    progress: &mut Progress,
-) -> Result<Value, Exit>
+fn added(alloc: Global, x: &Value, y: &Value, progress: &mut Progress) -> Result<Value, Exit>
     ensures means { (fields : Fields) → Agrees result (reached progress.new fields) (spec.added x.now y.now (reached progress.old fields)) }
     ensures spent { progress.new.left ≤ progress.old.left }
 {

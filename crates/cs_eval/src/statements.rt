@@ -4,6 +4,7 @@ ghost use Rattle.std.specs.Option.{option_copied};
 ghost use Rattle.cs_meaning.specs.Scopes as scopes;
 ghost use Rattle.cs_meaning.specs.Sections as labels;
 ghost use Rattle.cs_meaning.specs.Statements as spec;
+ghost use Rattle.cs_meaning.specs.Variables as variables;
 ghost use Rattle.cs_eval.specs.Agrees.{Agrees, meaning_in, reached};
 
 use crate::ending::{end_scope, end_section};
@@ -14,6 +15,7 @@ use crate::progress::{Around, Progress};
 use crate::sections::selected;
 use crate::store::Store;
 use cs_ast::{Code, Value};
+use sqlite_items::{Boxed, Items};
 
 /// Code that may be absent: null then.
 #[cycle(evaluator)]
@@ -130,8 +132,8 @@ pub(crate) fn branch<S: Store>(
 #[cycle(evaluator)]
 pub(crate) fn switch<S: Store>(
     around: &Around<'_>,
-    value: &Code,
-    sections: &[Code],
+    value: &Boxed<Code>,
+    sections: &Items<Code>,
     progress: &mut Progress,
     store: &mut S,
 ) -> Result<Value, Exit>
@@ -142,9 +144,67 @@ pub(crate) fn switch<S: Store>(
     ensures rest { S.rest store.new ≡ S.rest store.old }
     ensures spent { progress.new.left ≤ progress.old.left }
 {
-    let x = evaluate(around, value, progress, store)?;
-    match selected(&x, sections) {
+    let x = evaluate(around, value.get(), progress, store)?;
+    match selected(&x, sections.as_slice()) {
         Some(statements) => end_section(block(around, statements, progress, store)),
         None => Ok(Value::Null),
     }
+}
+
+/// A new local with the value of an expression.
+#[cycle(evaluator)]
+pub(crate) fn declare<S: Store>(
+    around: &Around<'_>,
+    e: &Code,
+    progress: &mut Progress,
+    store: &mut S,
+) -> Result<Value, Exit>
+    ensures means { let run = meaning_in around.now (S.parameters store.old) in
+        Agrees result (reached progress.new (S.fields store.new))
+        (variables.declared_as (run e.now) (reached progress.old (S.fields store.old))) }
+    ensures parameters { S.parameters store.new ≡ S.parameters store.old }
+    ensures rest { S.rest store.new ≡ S.rest store.old }
+    ensures spent { progress.new.left ≤ progress.old.left }
+{
+    let value = evaluate(around, e, progress, store)?;
+    progress.locals.push(value)?;
+    Ok(Value::Null)
+}
+
+/// `return`, with its value if there is one.
+#[cycle(evaluator)]
+pub(crate) fn returned<S: Store>(
+    around: &Around<'_>,
+    e: Option<&Code>,
+    progress: &mut Progress,
+    store: &mut S,
+) -> Result<Value, Exit>
+    ensures means { let run = meaning_in around.now (S.parameters store.old) in
+        Agrees result (reached progress.new (S.fields store.new))
+        (spec.returned (option_map run (option_copied e.entry)) (reached progress.old (S.fields store.old))) }
+    ensures parameters { S.parameters store.new ≡ S.parameters store.old }
+    ensures rest { S.rest store.new ≡ S.rest store.old }
+    ensures spent { progress.new.left ≤ progress.old.left }
+{
+    let value = optional(around, e, progress, store)?;
+    Err(Exit::Return(value))
+}
+
+/// An expression whose value isn't used.
+#[cycle(evaluator)]
+pub(crate) fn perform<S: Store>(
+    around: &Around<'_>,
+    e: &Code,
+    progress: &mut Progress,
+    store: &mut S,
+) -> Result<Value, Exit>
+    ensures means { let run = meaning_in around.now (S.parameters store.old) in
+        Agrees result (reached progress.new (S.fields store.new))
+        (spec.performed (run e.now) (reached progress.old (S.fields store.old))) }
+    ensures parameters { S.parameters store.new ≡ S.parameters store.old }
+    ensures rest { S.rest store.new ≡ S.rest store.old }
+    ensures spent { progress.new.left ≤ progress.old.left }
+{
+    evaluate(around, e, progress, store)?;
+    Ok(Value::Null)
 }

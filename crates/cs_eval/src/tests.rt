@@ -3,9 +3,7 @@ use crate::evaluator::evaluate;
 use crate::exit::Exit;
 use crate::progress::{Around, Progress};
 use crate::{Fault, Owners};
-use cs_ast::{
-    AssignOp, BinaryOp, Bodies, Code, LibraryMember, StepOp, Value, Variable, same,
-};
+use cs_ast::{AssignOp, BinaryOp, Bodies, Code, LibraryMember, StepOp, Value, Variable, same};
 use sqlite_items::{Boxed, Items};
 use std::alloc::Global;
 use std::process::Abort;
@@ -173,7 +171,11 @@ fn ends(
         (Err(fault), Err(want)) => assert!(rt; fault == want, "{fault:?}"),
         (outcome, _) => panic!(rt; "{outcome:?}"),
     }
-    assert!(rt; end.progress.left == left, "{} units left", end.progress.left);
+    assert!(rt;
+        end.progress.left == left,
+        "{} units left",
+        end.progress.left
+    );
     Ok(())
 }
 
@@ -203,10 +205,18 @@ fn lists_have_places(rt: HostRuntime) -> Result<(), Fail> {
     let past = Err(Fault::IndexOutOfRange);
     let removed = library(alloc, RemoveAt, [one_two_three(alloc)?, Code::Int(3)])?;
     ends(&rt, alloc, removed, past, 999_991)?;
-    let inserted = library(alloc, Insert, [one_two_three(alloc)?, Code::Int(3), Code::Int(9)])?;
+    let inserted = library(
+        alloc,
+        Insert,
+        [one_two_three(alloc)?, Code::Int(3), Code::Int(9)],
+    )?;
     let count = library(alloc, Count, [inserted])?;
     ends(&rt, alloc, count, Ok(Value::Int(4)), 999_989)?;
-    let set = library(alloc, SetItem, [one_two_three(alloc)?, Code::Int(0), Code::Int(9)])?;
+    let set = library(
+        alloc,
+        SetItem,
+        [one_two_three(alloc)?, Code::Int(0), Code::Int(9)],
+    )?;
     let first = Code::Index(Boxed::new(alloc, set)?, Boxed::new(alloc, Code::Int(0))?);
     ends(&rt, alloc, first, Ok(Value::Int(9)), 999_988)?;
     Ok(())
@@ -260,7 +270,10 @@ fn values_are_charged_and_checked(rt: HostRuntime) -> Result<(), Fail> {
     let endless = while_true(alloc, doubled)?;
     let code = block(alloc, [start, endless])?;
     // The block, the declaration, the literal and the loop; 14 turns of four units; the new texts of 128 to 1,048,576 bytes.
-    let left = 1_000_000 - 4 - 14 * 4 - (2 + 4 + 8 + 16 + 32 + 64 + 128 + 256 + 512 + 1024 + 2048 + 4096 + 8192 + 16384);
+    let left = 1_000_000
+        - 4
+        - 14 * 4
+        - (2 + 4 + 8 + 16 + 32 + 64 + 128 + 256 + 512 + 1024 + 2048 + 4096 + 8192 + 16384);
     ends(&rt, alloc, code, Err(Fault::ValueTooLarge), left)?;
     Ok(())
 }
@@ -282,7 +295,11 @@ fn calls_are_not_too_deep(rt: HostRuntime) -> Result<(), Fail> {
     let code = Code::Call(7, codes(alloc, [])?);
     let end = run(&rt, alloc, &code, &methods(alloc)?);
     assert!(rt; matches!(&end.outcome, Err(Fault::CallDepth)));
-    assert!(rt; end.progress.left == 1_000_000 - 1 - 99 * 3, "{}", end.progress.left);
+    assert!(rt;
+        end.progress.left == 1_000_000 - 1 - 99 * 3,
+        "{}",
+        end.progress.left
+    );
     Ok(())
 }
 
@@ -307,7 +324,10 @@ fn operands_go_from_left_to_right(rt: HostRuntime) -> Result<(), Fail> {
 fn callbacks_run_in_their_receivers(rt: HostRuntime) -> Result<(), Fail> {
     let alloc = rt.alloc();
     let mut bodies = Bodies::new(alloc);
-    bodies.set(3, assign(alloc, Variable::Field(0), AssignOp::Set, Code::Local(0))?)?;
+    bodies.set(
+        3,
+        assign(alloc, Variable::Field(0), AssignOp::Set, Code::Local(0))?,
+    )?;
     let mut captures = Items::new(alloc);
     captures.push(Value::Int(40))?;
     let callback = Value::Callback {
@@ -337,9 +357,18 @@ fn callbacks_run_in_their_receivers(rt: HostRuntime) -> Result<(), Fail> {
     };
     let outcome = evaluate(&around, &invoke, &mut progress, &mut owners);
     assert!(rt; matches!(&outcome, Ok(Value::Null)));
-    assert!(rt; matches!((&owners.first, &owners.second), (Value::Int(1), Value::Int(40))));
+    assert!(rt;
+        matches!(
+            (&owners.first, &owners.second),
+            (Value::Int(1), Value::Int(40))
+        )
+    );
     assert!(rt; progress.receivers.as_slice() == [2].as_slice());
-    assert!(rt; progress.locals.len() == 1 && progress.left == 94, "{}", progress.left);
+    assert!(rt;
+        progress.locals.len() == 1 && progress.left == 94,
+        "{}",
+        progress.left
+    );
     Ok(())
 }
 
@@ -371,7 +400,10 @@ fn sections_are_selected(rt: HostRuntime) -> Result<(), Fail> {
             Code::Section(Items::new(alloc), true, otherwise),
             Code::Section(constants, false, labelled),
         ];
-        let code = Code::Switch(Boxed::new(alloc, Code::Int(value))?, codes(alloc, sections)?);
+        let code = Code::Switch(
+            Boxed::new(alloc, Code::Int(value))?,
+            codes(alloc, sections)?,
+        );
         ends(&rt, alloc, code, Ok(Value::Int(want)), 999_996)?;
     }
     Ok(())

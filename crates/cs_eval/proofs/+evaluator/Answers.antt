@@ -1,5 +1,4 @@
 use Rattle.std.proofs.Common.{◌≡◌, ℕ, ◌+◌, rules, refl, sym, ap, ◌∙◌, arith}
-use Rattle.std.proofs.lemmas.Grind.{common_steps}
 use Rattle.std.specs.Prelude.{Option}
 use Rattle.cs_ast.specs.Bodies.{code_at}
 use Rattle.cs_ast.specs.declared.code.Code.{Code}
@@ -70,41 +69,22 @@ evaluator::act-returns-in-Local-clause-means g t c =
     let form = ap (λ (code : Code). behind around code before) c.in-Local.is ∙ local_behind around c.in-Local.at before in
     rw form (search rules)
 
-pub evaluator::act-returns-in_err-values-in-Interpolated-clause-means : goal.evaluator::act-returns-in_err-values-in-Interpolated-clause-means
-evaluator::act-returns-in_err-values-in-Interpolated-clause-means g t c =
-    rw (ap (λ (code : Code). behind (setting_in c.args.around.now (g.S.Store.parameters c.args.store.now)) code (reached c.args.progress.now (g.S.Store.fields c.args.store.now))) c.in-Interpolated.is ∙ interpolated_behind (setting_in c.args.around.now (g.S.Store.parameters c.args.store.now)) c.in-Interpolated.pieces (reached c.args.progress.now (g.S.Store.fields c.args.store.now))) (first_of (search rules, grind (arith, common_steps)))
-
-pub evaluator::act-returns-in_err-all_joined-in-Interpolated-clause-means : goal.evaluator::act-returns-in_err-all_joined-in-Interpolated-clause-means
-evaluator::act-returns-in_err-all_joined-in-Interpolated-clause-means g t c =
+pub evaluator::act-returns-in-Interpolated-clause-means : goal.evaluator::act-returns-in-Interpolated-clause-means
+evaluator::act-returns-in-Interpolated-clause-means g t c =
     let around = setting_in c.args.around.now (g.S.Store.parameters c.args.store.now) in
     let before = reached c.args.progress.now (g.S.Store.fields c.args.store.now) in
     let form = ap (λ (code : Code). behind around code before) c.in-Interpolated.is ∙ interpolated_behind around c.in-Interpolated.pieces before in
     rw form (search rules)
 
-pub evaluator::act-returns-in_ok-all_joined-in-Interpolated-clause-means : goal.evaluator::act-returns-in_ok-all_joined-in-Interpolated-clause-means
-evaluator::act-returns-in_ok-all_joined-in-Interpolated-clause-means g t c =
-    let around = setting_in c.args.around.now (g.S.Store.parameters c.args.store.now) in
-    let before = reached c.args.progress.now (g.S.Store.fields c.args.store.now) in
-    let form = ap (λ (code : Code). behind around code before) c.in-Interpolated.is ∙ interpolated_behind around c.in-Interpolated.pieces before in
-    rw form (search rules)
-
-pub evaluator::act-returns-in_err-evaluate-in-Unary-clause-means : goal.evaluator::act-returns-in_err-evaluate-in-Unary-clause-means
-evaluator::act-returns-in_err-evaluate-in-Unary-clause-means g t c =
-    rw (ap (λ (code : Code). behind (setting_in c.args.around.now (g.S.Store.parameters c.args.store.now)) code (reached c.args.progress.now (g.S.Store.fields c.args.store.now))) c.in-Unary.is ∙ unary_behind (setting_in c.args.around.now (g.S.Store.parameters c.args.store.now)) c.in-Unary.op c.in-Unary.a (reached c.args.progress.now (g.S.Store.fields c.args.store.now))) (first_of (search rules, grind (arith, common_steps)))
-
-pub evaluator::act-returns-in_ok-evaluate-in-Unary-clause-means : goal.evaluator::act-returns-in_ok-evaluate-in-Unary-clause-means
-evaluator::act-returns-in_ok-evaluate-in-Unary-clause-means g t c =
+pub evaluator::act-returns-in-Unary-clause-means : goal.evaluator::act-returns-in-Unary-clause-means
+evaluator::act-returns-in-Unary-clause-means g t c =
     let around = setting_in c.args.around.now (g.S.Store.parameters c.args.store.now) in
     let before = reached c.args.progress.now (g.S.Store.fields c.args.store.now) in
     let form = ap (λ (code : Code). behind around code before) c.in-Unary.is ∙ unary_behind around c.in-Unary.op c.in-Unary.a before in
     rw form (search rules)
 
-pub evaluator::act-returns-in_err-evaluate-in-Cast-clause-means : goal.evaluator::act-returns-in_err-evaluate-in-Cast-clause-means
-evaluator::act-returns-in_err-evaluate-in-Cast-clause-means g t c =
-    rw (ap (λ (code : Code). behind (setting_in c.args.around.now (g.S.Store.parameters c.args.store.now)) code (reached c.args.progress.now (g.S.Store.fields c.args.store.now))) c.in-Cast.is ∙ cast_behind (setting_in c.args.around.now (g.S.Store.parameters c.args.store.now)) c.in-Cast.op c.in-Cast.a (reached c.args.progress.now (g.S.Store.fields c.args.store.now))) (first_of (search rules, grind (arith, common_steps)))
-
-pub evaluator::act-returns-in_ok-evaluate-in-Cast-clause-means : goal.evaluator::act-returns-in_ok-evaluate-in-Cast-clause-means
-evaluator::act-returns-in_ok-evaluate-in-Cast-clause-means g t c =
+pub evaluator::act-returns-in-Cast-clause-means : goal.evaluator::act-returns-in-Cast-clause-means
+evaluator::act-returns-in-Cast-clause-means g t c =
     let around = setting_in c.args.around.now (g.S.Store.parameters c.args.store.now) in
     let before = reached c.args.progress.now (g.S.Store.fields c.args.store.now) in
     let form = ap (λ (code : Code). behind around code before) c.in-Cast.is ∙ cast_behind around c.in-Cast.op c.in-Cast.a before in
@@ -131,60 +111,36 @@ evaluator::act-returns-in-With-clause-means g t c =
     let form = ap (λ (code : Code). behind around code before) c.in-With.is ∙ with_behind around c.in-With.a c.in-With.positions c.in-With.values before in
     rw form (search rules)
 
-pub evaluator::act-returns-in_err-evaluate-in-Part-clause-means : goal.evaluator::act-returns-in_err-evaluate-in-Part-clause-means
-evaluator::act-returns-in_err-evaluate-in-Part-clause-means g t c =
-    rw (ap (λ (code : Code). behind (setting_in c.args.around.now (g.S.Store.parameters c.args.store.now)) code (reached c.args.progress.now (g.S.Store.fields c.args.store.now))) c.in-Part.is ∙ part_behind (setting_in c.args.around.now (g.S.Store.parameters c.args.store.now)) c.in-Part.a c.in-Part.at (reached c.args.progress.now (g.S.Store.fields c.args.store.now))) (first_of (search rules, grind (arith, common_steps)))
-
-pub evaluator::act-returns-in_ok-evaluate-in-Part-clause-means : goal.evaluator::act-returns-in_ok-evaluate-in-Part-clause-means
-evaluator::act-returns-in_ok-evaluate-in-Part-clause-means g t c =
+pub evaluator::act-returns-in-Part-clause-means : goal.evaluator::act-returns-in-Part-clause-means
+evaluator::act-returns-in-Part-clause-means g t c =
     let around = setting_in c.args.around.now (g.S.Store.parameters c.args.store.now) in
     let before = reached c.args.progress.now (g.S.Store.fields c.args.store.now) in
     let form = ap (λ (code : Code). behind around code before) c.in-Part.is ∙ part_behind around c.in-Part.a c.in-Part.at before in
     rw form (search rules)
 
-pub evaluator::act-returns-in_err-evaluate-in-NullPart-clause-means : goal.evaluator::act-returns-in_err-evaluate-in-NullPart-clause-means
-evaluator::act-returns-in_err-evaluate-in-NullPart-clause-means g t c =
-    rw (ap (λ (code : Code). behind (setting_in c.args.around.now (g.S.Store.parameters c.args.store.now)) code (reached c.args.progress.now (g.S.Store.fields c.args.store.now))) c.in-NullPart.is ∙ null_part_behind (setting_in c.args.around.now (g.S.Store.parameters c.args.store.now)) c.in-NullPart.a c.in-NullPart.at (reached c.args.progress.now (g.S.Store.fields c.args.store.now))) (first_of (search rules, grind (arith, common_steps)))
-
-pub evaluator::act-returns-in_ok-evaluate-in-NullPart-clause-means : goal.evaluator::act-returns-in_ok-evaluate-in-NullPart-clause-means
-evaluator::act-returns-in_ok-evaluate-in-NullPart-clause-means g t c =
+pub evaluator::act-returns-in-NullPart-clause-means : goal.evaluator::act-returns-in-NullPart-clause-means
+evaluator::act-returns-in-NullPart-clause-means g t c =
     let around = setting_in c.args.around.now (g.S.Store.parameters c.args.store.now) in
     let before = reached c.args.progress.now (g.S.Store.fields c.args.store.now) in
     let form = ap (λ (code : Code). behind around code before) c.in-NullPart.is ∙ null_part_behind around c.in-NullPart.a c.in-NullPart.at before in
     rw form (search rules)
 
-pub evaluator::act-returns-in_err-list-in-Index-clause-means : goal.evaluator::act-returns-in_err-list-in-Index-clause-means
-evaluator::act-returns-in_err-list-in-Index-clause-means g t c =
-    rw (ap (λ (code : Code). behind (setting_in c.args.around.now (g.S.Store.parameters c.args.store.now)) code (reached c.args.progress.now (g.S.Store.fields c.args.store.now))) c.in-Index.is ∙ index_behind (setting_in c.args.around.now (g.S.Store.parameters c.args.store.now)) c.in-Index.a c.in-Index.b (reached c.args.progress.now (g.S.Store.fields c.args.store.now))) (first_of (search rules, grind (arith, common_steps)))
-
-pub evaluator::act-returns-in_err-index-in-Index-clause-means : goal.evaluator::act-returns-in_err-index-in-Index-clause-means
-evaluator::act-returns-in_err-index-in-Index-clause-means g t c =
-    rw (ap (λ (code : Code). behind (setting_in c.args.around.now (g.S.Store.parameters c.args.store.now)) code (reached c.args.progress.now (g.S.Store.fields c.args.store.now))) c.in-Index.is ∙ index_behind (setting_in c.args.around.now (g.S.Store.parameters c.args.store.now)) c.in-Index.a c.in-Index.b (reached c.args.progress.now (g.S.Store.fields c.args.store.now))) (first_of (search rules, grind (arith, common_steps)))
-
-pub evaluator::act-returns-in_ok-index-in-Index-clause-means : goal.evaluator::act-returns-in_ok-index-in-Index-clause-means
-evaluator::act-returns-in_ok-index-in-Index-clause-means g t c =
+pub evaluator::act-returns-in-Index-clause-means : goal.evaluator::act-returns-in-Index-clause-means
+evaluator::act-returns-in-Index-clause-means g t c =
     let around = setting_in c.args.around.now (g.S.Store.parameters c.args.store.now) in
     let before = reached c.args.progress.now (g.S.Store.fields c.args.store.now) in
     let form = ap (λ (code : Code). behind around code before) c.in-Index.is ∙ index_behind around c.in-Index.a c.in-Index.b before in
     rw form (search rules)
 
-pub evaluator::act-returns-in_err-values-in-New-clause-means : goal.evaluator::act-returns-in_err-values-in-New-clause-means
-evaluator::act-returns-in_err-values-in-New-clause-means g t c =
-    rw (ap (λ (code : Code). behind (setting_in c.args.around.now (g.S.Store.parameters c.args.store.now)) code (reached c.args.progress.now (g.S.Store.fields c.args.store.now))) c.in-New.is ∙ new_behind (setting_in c.args.around.now (g.S.Store.parameters c.args.store.now)) c.in-New.kind c.in-New.parts (reached c.args.progress.now (g.S.Store.fields c.args.store.now))) (first_of (search rules, grind (arith, common_steps)))
-
-pub evaluator::act-returns-in_ok-values-in-New-clause-means : goal.evaluator::act-returns-in_ok-values-in-New-clause-means
-evaluator::act-returns-in_ok-values-in-New-clause-means g t c =
+pub evaluator::act-returns-in-New-clause-means : goal.evaluator::act-returns-in-New-clause-means
+evaluator::act-returns-in-New-clause-means g t c =
     let around = setting_in c.args.around.now (g.S.Store.parameters c.args.store.now) in
     let before = reached c.args.progress.now (g.S.Store.fields c.args.store.now) in
     let form = ap (λ (code : Code). behind around code before) c.in-New.is ∙ new_behind around c.in-New.kind c.in-New.parts before in
     rw form (search rules)
 
-pub evaluator::act-returns-in_err-values-in-Library-clause-means : goal.evaluator::act-returns-in_err-values-in-Library-clause-means
-evaluator::act-returns-in_err-values-in-Library-clause-means g t c =
-    rw (ap (λ (code : Code). behind (setting_in c.args.around.now (g.S.Store.parameters c.args.store.now)) code (reached c.args.progress.now (g.S.Store.fields c.args.store.now))) c.in-Library.is ∙ library_behind (setting_in c.args.around.now (g.S.Store.parameters c.args.store.now)) c.in-Library.member c.in-Library.arguments (reached c.args.progress.now (g.S.Store.fields c.args.store.now))) (first_of (search rules, grind (arith, common_steps)))
-
-pub evaluator::act-returns-in_ok-values-in-Library-clause-means : goal.evaluator::act-returns-in_ok-values-in-Library-clause-means
-evaluator::act-returns-in_ok-values-in-Library-clause-means g t c =
+pub evaluator::act-returns-in-Library-clause-means : goal.evaluator::act-returns-in-Library-clause-means
+evaluator::act-returns-in-Library-clause-means g t c =
     let around = setting_in c.args.around.now (g.S.Store.parameters c.args.store.now) in
     let before = reached c.args.progress.now (g.S.Store.fields c.args.store.now) in
     let form = ap (λ (code : Code). behind around code before) c.in-Library.is ∙ library_behind around c.in-Library.member c.in-Library.arguments before in
@@ -204,16 +160,8 @@ evaluator::act-returns-in-Callback-clause-means g t c =
     let form = ap (λ (code : Code). behind around code before) c.in-Callback.is ∙ callback_behind around c.in-Callback.number c.in-Callback.positions before in
     rw form (search rules)
 
-pub evaluator::act-returns-in_err-fragment-in-Fill-clause-means : goal.evaluator::act-returns-in_err-fragment-in-Fill-clause-means
-evaluator::act-returns-in_err-fragment-in-Fill-clause-means g t c =
-    rw (ap (λ (code : Code). behind (setting_in c.args.around.now (g.S.Store.parameters c.args.store.now)) code (reached c.args.progress.now (g.S.Store.fields c.args.store.now))) c.in-Fill.is ∙ fill_behind (setting_in c.args.around.now (g.S.Store.parameters c.args.store.now)) c.in-Fill.a c.in-Fill.b (reached c.args.progress.now (g.S.Store.fields c.args.store.now))) (first_of (search rules, grind (arith, common_steps)))
-
-pub evaluator::act-returns-in_err-more-in-Fill-clause-means : goal.evaluator::act-returns-in_err-more-in-Fill-clause-means
-evaluator::act-returns-in_err-more-in-Fill-clause-means g t c =
-    rw (ap (λ (code : Code). behind (setting_in c.args.around.now (g.S.Store.parameters c.args.store.now)) code (reached c.args.progress.now (g.S.Store.fields c.args.store.now))) c.in-Fill.is ∙ fill_behind (setting_in c.args.around.now (g.S.Store.parameters c.args.store.now)) c.in-Fill.a c.in-Fill.b (reached c.args.progress.now (g.S.Store.fields c.args.store.now))) (first_of (search rules, grind (arith, common_steps)))
-
-pub evaluator::act-returns-in_ok-more-in-Fill-clause-means : goal.evaluator::act-returns-in_ok-more-in-Fill-clause-means
-evaluator::act-returns-in_ok-more-in-Fill-clause-means g t c =
+pub evaluator::act-returns-in-Fill-clause-means : goal.evaluator::act-returns-in-Fill-clause-means
+evaluator::act-returns-in-Fill-clause-means g t c =
     let around = setting_in c.args.around.now (g.S.Store.parameters c.args.store.now) in
     let before = reached c.args.progress.now (g.S.Store.fields c.args.store.now) in
     let form = ap (λ (code : Code). behind around code before) c.in-Fill.is ∙ fill_behind around c.in-Fill.a c.in-Fill.b before in
@@ -240,20 +188,12 @@ evaluator::act-returns-in-Step-clause-means g t c =
     let form = ap (λ (code : Code). behind around code before) c.in-Step.is ∙ step_behind around c.in-Step.target c.in-Step.op before in
     rw form (search rules)
 
-pub evaluator::act-returns-in_err-value-in-Declare-clause-means : goal.evaluator::act-returns-in_err-value-in-Declare-clause-means
-evaluator::act-returns-in_err-value-in-Declare-clause-means g t c =
-    rw (ap (λ (code : Code). behind (setting_in c.args.around.now (g.S.Store.parameters c.args.store.now)) code (reached c.args.progress.now (g.S.Store.fields c.args.store.now))) c.in-Declare.is ∙ declare_behind (setting_in c.args.around.now (g.S.Store.parameters c.args.store.now)) c.in-Declare.e (reached c.args.progress.now (g.S.Store.fields c.args.store.now))) (first_of (search rules, grind (arith, common_steps)))
-
-pub evaluator::act-returns-in_err-push-in-Declare-clause-means : goal.evaluator::act-returns-in_err-push-in-Declare-clause-means
-evaluator::act-returns-in_err-push-in-Declare-clause-means g t c =
+pub evaluator::act-returns-in-Declare-clause-means : goal.evaluator::act-returns-in-Declare-clause-means
+evaluator::act-returns-in-Declare-clause-means g t c =
     let around = setting_in c.args.around.now (g.S.Store.parameters c.args.store.now) in
     let before = reached c.args.progress.now (g.S.Store.fields c.args.store.now) in
     let form = ap (λ (code : Code). behind around code before) c.in-Declare.is ∙ declare_behind around c.in-Declare.e before in
     rw form (search rules)
-
-pub evaluator::act-returns-in_ok-push-in-Declare-clause-means : goal.evaluator::act-returns-in_ok-push-in-Declare-clause-means
-evaluator::act-returns-in_ok-push-in-Declare-clause-means g t c =
-    rw (ap (λ (code : Code). behind (setting_in c.args.around.now (g.S.Store.parameters c.args.store.now)) code (reached c.args.progress.now (g.S.Store.fields c.args.store.now))) c.in-Declare.is ∙ declare_behind (setting_in c.args.around.now (g.S.Store.parameters c.args.store.now)) c.in-Declare.e (reached c.args.progress.now (g.S.Store.fields c.args.store.now))) (first_of (search rules, grind (arith, common_steps)))
 
 pub evaluator::act-returns-in-Empty-clause-means : goal.evaluator::act-returns-in-Empty-clause-means
 evaluator::act-returns-in-Empty-clause-means g t c =
@@ -278,7 +218,10 @@ evaluator::act-returns-in-If-clause-means g t c =
 
 pub evaluator::act-returns-in-While-clause-means : goal.evaluator::act-returns-in-While-clause-means
 evaluator::act-returns-in-While-clause-means g t c =
-    rw (ap (λ (code : Code). behind (setting_in c.args.around.now (g.S.Store.parameters c.args.store.now)) code (reached c.args.progress.now (g.S.Store.fields c.args.store.now))) c.in-While.is ∙ while_behind (setting_in c.args.around.now (g.S.Store.parameters c.args.store.now)) c.in-While.test c.in-While.body (reached c.args.progress.now (g.S.Store.fields c.args.store.now))) (first_of (search rules, grind (arith, common_steps)))
+    let around = setting_in c.args.around.now (g.S.Store.parameters c.args.store.now) in
+    let before = reached c.args.progress.now (g.S.Store.fields c.args.store.now) in
+    let form = ap (λ (code : Code). behind around code before) c.in-While.is ∙ while_behind around c.in-While.test c.in-While.body before in
+    rw form (search rules)
 
 pub evaluator::act-returns-in-For-clause-means : goal.evaluator::act-returns-in-For-clause-means
 evaluator::act-returns-in-For-clause-means g t c =
@@ -296,7 +239,10 @@ evaluator::act-returns-in-ForEach-clause-means g t c =
 
 pub evaluator::act-returns-in-Switch-clause-means : goal.evaluator::act-returns-in-Switch-clause-means
 evaluator::act-returns-in-Switch-clause-means g t c =
-    rw (ap (λ (code : Code). behind (setting_in c.args.around.now (g.S.Store.parameters c.args.store.now)) code (reached c.args.progress.now (g.S.Store.fields c.args.store.now))) c.in-Switch.is ∙ switch_behind (setting_in c.args.around.now (g.S.Store.parameters c.args.store.now)) c.in-Switch.value c.in-Switch.sections (reached c.args.progress.now (g.S.Store.fields c.args.store.now))) (first_of (search rules, grind (arith, common_steps)))
+    let around = setting_in c.args.around.now (g.S.Store.parameters c.args.store.now) in
+    let before = reached c.args.progress.now (g.S.Store.fields c.args.store.now) in
+    let form = ap (λ (code : Code). behind around code before) c.in-Switch.is ∙ switch_behind around c.in-Switch.value c.in-Switch.sections before in
+    rw form c.switch.ensures.means
 
 pub evaluator::act-returns-in-Break-clause-means : goal.evaluator::act-returns-in-Break-clause-means
 evaluator::act-returns-in-Break-clause-means g t c =
@@ -312,21 +258,19 @@ evaluator::act-returns-in-Continue-clause-means g t c =
     let form = ap (λ (code : Code). behind around code before) c.in-Continue.is ∙ continue_behind around before in
     rw form (search rules)
 
-pub evaluator::act-returns-in_err-value-in-Return-clause-means : goal.evaluator::act-returns-in_err-value-in-Return-clause-means
-evaluator::act-returns-in_err-value-in-Return-clause-means g t c =
-    rw (ap (λ (code : Code). behind (setting_in c.args.around.now (g.S.Store.parameters c.args.store.now)) code (reached c.args.progress.now (g.S.Store.fields c.args.store.now))) c.in-Return.is ∙ return_behind (setting_in c.args.around.now (g.S.Store.parameters c.args.store.now)) c.in-Return.e (reached c.args.progress.now (g.S.Store.fields c.args.store.now))) (first_of (search rules, grind (arith, common_steps)))
+pub evaluator::act-returns-in-Return-clause-means : goal.evaluator::act-returns-in-Return-clause-means
+evaluator::act-returns-in-Return-clause-means g t c =
+    let around = setting_in c.args.around.now (g.S.Store.parameters c.args.store.now) in
+    let before = reached c.args.progress.now (g.S.Store.fields c.args.store.now) in
+    let form = ap (λ (code : Code). behind around code before) c.in-Return.is ∙ return_behind around c.in-Return.e before in
+    rw form (search rules)
 
-pub evaluator::act-returns-in_ok-value-in-Return-clause-means : goal.evaluator::act-returns-in_ok-value-in-Return-clause-means
-evaluator::act-returns-in_ok-value-in-Return-clause-means g t c =
-    rw (ap (λ (code : Code). behind (setting_in c.args.around.now (g.S.Store.parameters c.args.store.now)) code (reached c.args.progress.now (g.S.Store.fields c.args.store.now))) c.in-Return.is ∙ return_behind (setting_in c.args.around.now (g.S.Store.parameters c.args.store.now)) c.in-Return.e (reached c.args.progress.now (g.S.Store.fields c.args.store.now))) (first_of (search rules, grind (arith, common_steps)))
-
-pub evaluator::act-returns-in_err-evaluate-in-Perform-clause-means : goal.evaluator::act-returns-in_err-evaluate-in-Perform-clause-means
-evaluator::act-returns-in_err-evaluate-in-Perform-clause-means g t c =
-    rw (ap (λ (code : Code). behind (setting_in c.args.around.now (g.S.Store.parameters c.args.store.now)) code (reached c.args.progress.now (g.S.Store.fields c.args.store.now))) c.in-Perform.is ∙ perform_behind (setting_in c.args.around.now (g.S.Store.parameters c.args.store.now)) c.in-Perform.e (reached c.args.progress.now (g.S.Store.fields c.args.store.now))) (first_of (search rules, grind (arith, common_steps)))
-
-pub evaluator::act-returns-in_ok-evaluate-in-Perform-clause-means : goal.evaluator::act-returns-in_ok-evaluate-in-Perform-clause-means
-evaluator::act-returns-in_ok-evaluate-in-Perform-clause-means g t c =
-    rw (ap (λ (code : Code). behind (setting_in c.args.around.now (g.S.Store.parameters c.args.store.now)) code (reached c.args.progress.now (g.S.Store.fields c.args.store.now))) c.in-Perform.is ∙ perform_behind (setting_in c.args.around.now (g.S.Store.parameters c.args.store.now)) c.in-Perform.e (reached c.args.progress.now (g.S.Store.fields c.args.store.now))) (first_of (search rules, grind (arith, common_steps)))
+pub evaluator::act-returns-in-Perform-clause-means : goal.evaluator::act-returns-in-Perform-clause-means
+evaluator::act-returns-in-Perform-clause-means g t c =
+    let around = setting_in c.args.around.now (g.S.Store.parameters c.args.store.now) in
+    let before = reached c.args.progress.now (g.S.Store.fields c.args.store.now) in
+    let form = ap (λ (code : Code). behind around code before) c.in-Perform.is ∙ perform_behind around c.in-Perform.e before in
+    rw form (search rules)
 
 pub evaluator::act-returns-in-Piece-clause-means : goal.evaluator::act-returns-in-Piece-clause-means
 evaluator::act-returns-in-Piece-clause-means g t c = grind (arith, piece_behind)

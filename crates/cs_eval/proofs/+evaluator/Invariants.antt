@@ -80,6 +80,42 @@ decreases-calls::call g l = 16 * l.progress.now.left + 4
 abbrev pub decreases-calls::invoke : goal.decreases-calls::invoke
 decreases-calls::invoke g l = 16 * l.progress.now.left + 4
 
+abbrev pub decreases-operands::interpolated : goal.decreases-operands::interpolated
+decreases-operands::interpolated g l = 16 * l.progress.now.left + 3
+
+abbrev pub decreases-operands::unary : goal.decreases-operands::unary
+decreases-operands::unary g l = 16 * l.progress.now.left + 3
+
+abbrev pub decreases-operands::casted : goal.decreases-operands::casted
+decreases-operands::casted g l = 16 * l.progress.now.left + 3
+
+abbrev pub decreases-operands::part : goal.decreases-operands::part
+decreases-operands::part g l = 16 * l.progress.now.left + 3
+
+abbrev pub decreases-operands::null_part : goal.decreases-operands::null_part
+decreases-operands::null_part g l = 16 * l.progress.now.left + 3
+
+abbrev pub decreases-operands::index : goal.decreases-operands::index
+decreases-operands::index g l = 16 * l.progress.now.left + 3
+
+abbrev pub decreases-operands::fill : goal.decreases-operands::fill
+decreases-operands::fill g l = 16 * l.progress.now.left + 3
+
+abbrev pub decreases-operands::new_record : goal.decreases-operands::new_record
+decreases-operands::new_record g l = 16 * l.progress.now.left + 3
+
+abbrev pub decreases-operands::member_call : goal.decreases-operands::member_call
+decreases-operands::member_call g l = 16 * l.progress.now.left + 3
+
+abbrev pub decreases-statements::declare : goal.decreases-statements::declare
+decreases-statements::declare g l = 16 * l.progress.now.left + 3
+
+abbrev pub decreases-statements::returned : goal.decreases-statements::returned
+decreases-statements::returned g l = 16 * l.progress.now.left + 3
+
+abbrev pub decreases-statements::perform : goal.decreases-statements::perform
+decreases-statements::perform g l = 16 * l.progress.now.left + 3
+
 -- the statements still to run, from here, give what all give from the start
 abbrev pub invariant-statements::in_order-loop-statement : goal.invariant-statements::in_order-loop-statement
 invariant-statements::in_order-loop-statement g l =
