@@ -106,9 +106,7 @@ fn act<S: Store>(
             captured(around, *number, positions.as_slice(), progress)
         }
         Code::Fill(a, b) => fill(around, a.get(), b.get(), progress, store),
-        Code::Invoke(a, argument) => {
-            invoke(around, a.get(), as_code(argument), progress, store)
-        }
+        Code::Invoke(a, argument) => { invoke(around, a.get(), as_code(argument), progress, store) }
         Code::Assign(target, op, e) => assign(around, *target, *op, e.get(), progress, store),
         Code::Step(target, op) => stepped(around, *target, *op, progress, store),
         Code::Declare(e) => declare(around, e.get(), progress, store),

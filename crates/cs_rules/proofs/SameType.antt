@@ -60,9 +60,10 @@ decided : (a : CsType) → Decided a
 decided = ind-CsType Decided (λ x y is. subst (λ z. Decided (roll-CsType z)) is (by y))
   where
     by : (y : CsType-F Such) → Decided (roll-CsType (trees y))
-    by y =
-        ((λ b h. ap roll-CsType (level y (out-CsType b) (sym (at_root (trees y) b) ∙ h)) ∙ roll-out-CsType b),
-        at_root (trees y) (roll-CsType (trees y)) ∙ ap (same_level (map-CsType CsType (CsType → Bool) same_type (trees y))) (out-roll-CsType (trees y)) ∙ self y)
+    by y = (
+      (λ b h. ap roll-CsType (level y (out-CsType b) (sym (at_root (trees y) b) ∙ h)) ∙ roll-out-CsType b),
+      at_root (trees y) (roll-CsType (trees y)) ∙ ap (same_level (map-CsType CsType (CsType → Bool) same_type (trees y))) (out-roll-CsType (trees y)) ∙ self y,
+    )
 
 pub same_equal : (a b : CsType) → same_type a b ≡ true → a ≡ b
 same_equal a b h = (decided a).0 b h

@@ -94,4 +94,3 @@ module _ (records : List Member) where
 
   pub unknown_args : (w : TypeExpr) → w.kind ≡ tk.Args → unknown_in records w ≡ Some w.place
   unknown_args w is = unknown_kind w TypeKind-F.Args (is ∙ sym tk.rolls-Args)
-
