@@ -23,8 +23,6 @@ mod run;
 mod sections;
 mod statements;
 mod store;
-#[cfg(test)]
-mod tests;
 mod texts;
 mod variables;
 
