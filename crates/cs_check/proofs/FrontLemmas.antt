@@ -2,16 +2,12 @@
 use Rattle.std.proofs.Common.{◌≡◌, List, [], ◌∷◌, ◌++◌, map, refl, sym, ap, ◌∙◌, append_assoc, ℕ}
 use Rattle.std.proofs.lemmas.List.{append-nil}
 use Rattle.cs_ast.specs.declared.cs_type.CsType.{CsType}
-use Rattle.cs_ast.specs.declared.expression.Expr.{Expr}
-use Rattle.cs_ast.specs.declared.expression.TextPart.{TextPart}
-use Rattle.cs_ast.specs.declared.scope.Scope.{Scope}
 use Rattle.cs_rules.specs.declared.checked.Checked.{Checked}
-use Rattle.cs_rules.specs.Judged.{Judged, fine, breaks, each, ◌>>=◌}
+use Rattle.cs_rules.specs.Judged.{Judged, fine, breaks, ◌>>=◌}
 use Rattle.cs_rules.specs.Expressions.{Replaced}
 use Rattle.cs_ast.specs.declared.value.Value.{Value}
 use Rattle.std.specs.Prelude.{Some, None}
 use Rattle.cs_rules.specs.Statements.{with_constant}
-use Rattle.cs_rules.specs.Trees.{uses, piece, value_in}
 
 module _ {A : Type 0} where
   -- all that are judged, behind those in front
@@ -37,14 +33,6 @@ front_constant front y (breaks rule place) = refl
 pub front_same : (front : List Value) (judged : Judged (List Value)) → with_front front (judged >>= λ ys. fine (with_constant None ys)) ≡ with_front front judged
 front_same front (fine ys) = refl
 front_same front (breaks rule place) = refl
-
-pub each_value : (s : Scope) (arguments : List Expr) → each (λ argument. argument s) (map (λ x. x.value) (map uses arguments)) ≡ each (value_in s) arguments
-each_value s [] = refl
-each_value s (a ∷ others) = ap (λ j. value_in s a >>= λ y. j >>= λ ys. fine (y ∷ ys)) (each_value s others)
-
-pub each_piece : (s : Scope) (parts : List TextPart) → each (λ part. part s) (map piece parts) ≡ each (λ part. piece part s) parts
-each_piece s [] = refl
-each_piece s (a ∷ others) = ap (λ j. piece a s >>= λ y. j >>= λ ys. fine (y ∷ ys)) (each_piece s others)
 
 -- the same with new values of parts
 abbrev pub in_front : List ℕ → List CsType → List Checked → Judged Replaced → Judged Replaced

@@ -1,13 +1,9 @@
 -- Scopes that grow and are restored.
-use Rattle.std.proofs.Common.{◌≡◌, ℕ, List, [], ◌∷◌, ◌++◌, length, take, drop, map, refl, sym, ap, ◌∙◌, append_assoc}
+use Rattle.std.proofs.Common.{◌≡◌, ℕ, List, [], ◌++◌, length, take, drop, map, refl, sym, ap, ◌∙◌, append_assoc}
 use Rattle.std.proofs.lemmas.List.{append-nil, take-append-drop}
 use Rattle.std.proofs.Math.Seq.{take-append_seam, take-length}
-use Rattle.cs_ast.specs.declared.expression.Section.{Section}
 use Rattle.cs_ast.specs.declared.scope.Scope.{Scope}
 use Rattle.cs_ast.specs.declared.scope.Named.{Named}
-use Rattle.cs_rules.specs.declared.checked.ExprType.{ExprType}
-use Rattle.cs_rules.specs.Judged.{Judged, fine, each, ◌>>=◌}
-use Rattle.cs_rules.specs.Trees.{section}
 
 pub kept_self : (a : List Named) → take (length a) a ≡ a
 kept_self a = take-length a
@@ -24,7 +20,3 @@ kept_on a b d first second =
 
 pub no_locals : (s : Scope) → record s { names = s.names ++ [] } ≡ s
 no_locals s = ap (λ (names : List Named). record s { names = names }) (append-nil s.names)
-
-pub each_section : (decided : ExprType) (s : Scope) (all : List Section) → each (λ one. one decided s) (map section all) ≡ each (λ it. section it decided s) all
-each_section decided s [] = refl
-each_section decided s (a ∷ others) = ap (λ j. section a decided s >>= λ y. j >>= λ ys. fine (y ∷ ys)) (each_section decided s others)

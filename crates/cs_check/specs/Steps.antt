@@ -16,7 +16,7 @@ use Rattle.cs_rules.specs.Judged.{Judged, fine, if_there, ◌>>=◌}
 use Rattle.cs_rules.specs.Types.{fitting, checked}
 use Rattle.cs_rules.specs.Names.{is_new}
 use Rattle.cs_rules.specs.Written.{type_of, written, Declared}
-use Rattle.cs_rules.specs.Library.{code_of_call}
+use Rattle.cs_rules.specs.Library.{code_of_call, callee_of_value}
 use Rattle.cs_rules.specs.Operators.{binary_type}
 use Rattle.cs_rules.specs.Expressions.{Value, items_of, chosen_type, passed}
 use Rattle.cs_rules.specs.Statements.{condition, stepped, initial, local_type}
@@ -55,6 +55,10 @@ indexed x y place = do
   item ← items_of x.place x.expr_type
   code ← fitting t.Int y
   fine (checked place (c.Index x.code code) item)
+
+-- a value as what is called
+abbrev pub value_called : Judged Checked → Judged Callee
+value_called value = value >>= callee_of_value
 
 -- a call over its arguments
 abbrev pub called : Place → Callee → List Checked → Judged Checked

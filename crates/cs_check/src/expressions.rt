@@ -4,6 +4,7 @@ ghost use Rattle.cs_rules.specs.Judged.{each};
 ghost use Rattle.cs_rules.specs.Expressions as spec;
 ghost use Rattle.cs_rules.specs.Trees.{value_in, callee_in, uses, uses_of_kind, piece as piece_of, given as given_of};
 ghost use Rattle.cs_check.specs.Agrees.{Agrees, AgreesBy};
+ghost use Rattle.cs_check.specs.Steps as steps;
 ghost use Rattle.cs_check.specs.Views.{scope_of, declared, replacing_view, replaced_view};
 
 use crate::CheckFault;
@@ -30,7 +31,6 @@ use text_core::Place;
 
 /// What an expression comes to as a value.
 #[cycle(expressions)]
-#[tactic(auto, using(cs_rules::proofs::Laws::uses_law))]
 pub fn value(names: &Names<'_>, e: &Expr) -> Result<Checked, CheckFault>
     ensures { Agrees result (value_in (scope_of names.now) e.now) }
 {
@@ -39,7 +39,6 @@ pub fn value(names: &Names<'_>, e: &Expr) -> Result<Checked, CheckFault>
 
 /// The same by its form.
 #[cycle(expressions)]
-#[tactic(auto, using(cs_rules::proofs::Laws::int_value, cs_rules::proofs::Laws::bool_value, cs_rules::proofs::Laws::text_value, cs_rules::proofs::Laws::null_value, cs_rules::proofs::Laws::interpolated_value, cs_rules::proofs::Laws::name_value, cs_rules::proofs::Laws::unary_value, cs_rules::proofs::Laws::cast_value, cs_rules::proofs::Laws::binary_value, cs_rules::proofs::Laws::conditional_value, cs_rules::proofs::Laws::with_value, cs_rules::proofs::Laws::member_value, cs_rules::proofs::Laws::null_member_value, cs_rules::proofs::Laws::call_value, cs_rules::proofs::Laws::index_value, cs_rules::proofs::Laws::new_value, cs_rules::proofs::Laws::empty_list_value, cs_rules::proofs::Laws::static_value, cs_rules::proofs::Laws::assign_value, cs_rules::proofs::Laws::step_value, cs_rules::proofs::Laws::lambda_value))]
 fn form(names: &Names<'_>, place: Place, kind: &ExprKind) -> Result<Checked, CheckFault>
     ensures { Agrees result ((uses_of_kind kind.now place).value (scope_of names.now)) }
 {
@@ -74,7 +73,6 @@ fn form(names: &Names<'_>, place: Place, kind: &ExprKind) -> Result<Checked, Che
 
 /// What an expression comes to as what is called.
 #[cycle(expressions)]
-#[tactic(auto, using(cs_rules::proofs::Laws::uses_law, cs_rules::proofs::Laws::name_called, cs_rules::proofs::Laws::member_called, cs_rules::proofs::Laws::static_called))]
 fn callee(names: &Names<'_>, e: &Expr) -> Result<Callee, CheckFault>
     ensures { Agrees result (callee_in (scope_of names.now) e.now) }
 {
@@ -82,18 +80,24 @@ fn callee(names: &Names<'_>, e: &Expr) -> Result<Callee, CheckFault>
         ExprKind::Name(name) => name_called(names, name, e.place),
         ExprKind::Member(a, name) => member_called(names, a.get(), name, e.place),
         ExprKind::Static(of, name) => static_callee(names.alloc, e.place, *of, name),
-        _ => {
-            let x = form(names, e.place, &e.kind)?;
-            callee_of_value(names.alloc, x)
-        }
+        _ => value_called(names, e.place, &e.kind),
     }
+}
+
+/// A value as what is called.
+#[cycle(expressions)]
+fn value_called(names: &Names<'_>, place: Place, kind: &ExprKind) -> Result<Callee, CheckFault>
+    ensures { Agrees result (steps.value_called ((uses_of_kind kind.now place).value (scope_of names.now))) }
+{
+    let x = form(names, place, kind)?;
+    callee_of_value(names.alloc, x)
 }
 
 /// Values, in order.
 #[cycle(expressions)]
 #[tactic(auto, using(crate::proofs::FrontLemmas::front_none, crate::proofs::FrontLemmas::front_more, crate::proofs::FrontLemmas::front_end))]
 fn values(names: &Names<'_>, arguments: &[Expr]) -> Result<Vec<Checked>, CheckFault>
-    ensures { AgreesBy (λ xs. xs.items) result (each (value_in (scope_of names.now)) arguments.now) }
+    ensures { AgreesBy (λ xs. xs.items) result (each (λ argument. argument (scope_of names.now)) (map (λ x. x.value) (map uses arguments.now))) }
 {
     let mut xs = Vec::new(names.alloc);
     for argument in arguments {
@@ -127,7 +131,7 @@ fn piece(names: &Names<'_>, part: &TextPart) -> Result<Code, CheckFault>
 #[cycle(expressions)]
 #[tactic(auto, using(crate::proofs::FrontLemmas::front_none, crate::proofs::FrontLemmas::front_more, crate::proofs::FrontLemmas::front_end))]
 fn pieces(names: &Names<'_>, parts: &[TextPart]) -> Result<Items<Code>, CheckFault>
-    ensures { Agrees result (each (λ part. piece_of part (scope_of names.now)) parts.now) }
+    ensures { Agrees result (each (λ part. part (scope_of names.now)) (map piece_of parts.now)) }
 {
     let mut codes = Items::new(names.alloc);
     for part in parts {
@@ -137,7 +141,7 @@ fn pieces(names: &Names<'_>, parts: &[TextPart]) -> Result<Items<Code>, CheckFau
 }
 
 #[cycle(expressions)]
-#[tactic(auto, unfolding(cs_rules::specs::Expressions::interpolated), using(crate::proofs::FrontLemmas::each_piece))]
+#[tactic(auto, unfolding(cs_rules::specs::Expressions::interpolated))]
 fn interpolated(names: &Names<'_>, parts: &[TextPart], place: Place) -> Result<Checked, CheckFault>
     ensures { Agrees result (spec.interpolated (map piece_of parts.now) place (scope_of names.now)) }
 {
@@ -255,7 +259,7 @@ fn member_called(
 }
 
 #[cycle(expressions)]
-#[tactic(auto, unfolding(cs_rules::specs::Expressions::call), using(crate::proofs::FrontLemmas::each_value))]
+#[tactic(auto, unfolding(cs_rules::specs::Expressions::call))]
 fn call(
     names: &Names<'_>,
     target: &Expr,
@@ -270,7 +274,7 @@ fn call(
 }
 
 #[cycle(expressions)]
-#[tactic(auto, unfolding(cs_rules::specs::Expressions::new), using(crate::proofs::FrontLemmas::each_value))]
+#[tactic(auto, unfolding(cs_rules::specs::Expressions::new))]
 fn new(
     names: &Names<'_>,
     name: &Ident,

@@ -15,6 +15,7 @@ mod types;
 mod whole;
 mod written;
 
+pub use cs_effects::effects;
 pub use cs_rules::{Checked, ExprType, Rule};
 pub use fault::CheckFault;
 pub use whole::{check_body, check_expr};

@@ -1,5 +1,5 @@
 // What stands behind a dot: the parts of records and the members of the library.
-ghost use Rattle.std.specs.Prelude.{◌≡◌, [], ◌∷◌, IfOk, option_map, slice_get};
+ghost use Rattle.std.specs.Prelude.{◌≡◌, [], ◌∷◌, IfOk, option_map, slice_get, if◌then◌else◌};
 ghost use Rattle.cs_ast.specs.declared.cs_type.CsType.{out-CsType};
 ghost use Rattle.cs_ast.specs.declared.cs_type.CsType.TheVariants as ty;
 ghost use Rattle.cs_rules.specs.declared.callee.Dotted.TheVariants as dotted_by;
@@ -7,7 +7,9 @@ ghost use Rattle.cs_ast.specs.declared.cs_type.CsType.TheOpen.{CsType-F};
 ghost use Rattle.cs_ast.specs.declared.code.Code.TheVariants as code_by;
 ghost use Rattle.cs_ast.specs.declared.operators.StaticType.TheVariants as static_by;
 ghost use Rattle.cs_rules.specs.declared.callee.Called.TheVariants as called_by;
+ghost use Rattle.cs_rules.specs.Judged.{fine, mismatch as wrong};
 ghost use Rattle.cs_rules.specs.Library as spec;
+ghost use Rattle.cs_rules.specs.Types as types_spec;
 ghost use Rattle.cs_rules.specs.Written as written_spec;
 ghost use Rattle.cs_check.specs.Agrees.{Agrees};
 
@@ -237,6 +239,38 @@ pub fn value_of_member(
     }
 }
 
+fn null_part(
+    alloc: Global,
+    place: Place,
+    x: Checked,
+    number: u32,
+    cs_type: CsType,
+) -> Result<Checked, CheckFault>
+    ensures { Agrees result (if types_spec.may_be_null cs_type then fine (types_spec.checked place (code_by.NullPart x.code number) cs_type) else wrong x.place) }
+{
+    if !may_be_null(&cs_type) {
+        return Err(mismatch(x.place));
+    }
+    let target = Boxed::new(alloc, x.code)?;
+    Ok(checked(place, Code::NullPart(target, number), cs_type))
+}
+
+fn null_property(
+    alloc: Global,
+    place: Place,
+    x: Checked,
+    member: LibraryMember,
+    cs_type: CsType,
+) -> Result<Checked, CheckFault>
+    ensures { Agrees result (if types_spec.may_be_null cs_type then fine (types_spec.checked place (code_by.Library member (x.code ∷ [])) cs_type) else wrong x.place) }
+{
+    if !may_be_null(&cs_type) {
+        return Err(mismatch(x.place));
+    }
+    let code = property(alloc, member, x.code)?;
+    Ok(checked(place, code, cs_type))
+}
+
 /// A member behind `?.`.
 #[tactic(auto, unfolding(cs_rules::specs::Library::null_member))]
 pub fn null_member(
@@ -248,20 +282,8 @@ pub fn null_member(
     ensures { Agrees result (spec.null_member place x found) }
 {
     match found {
-        Dotted::Part(number, cs_type) => {
-            if !may_be_null(&cs_type) {
-                return Err(mismatch(x.place));
-            }
-            let target = Boxed::new(alloc, x.code)?;
-            Ok(checked(place, Code::NullPart(target, number), cs_type))
-        }
-        Dotted::Property(member, cs_type) => {
-            if !may_be_null(&cs_type) {
-                return Err(mismatch(x.place));
-            }
-            let code = property(alloc, member, x.code)?;
-            Ok(checked(place, code, cs_type))
-        }
+        Dotted::Part(number, cs_type) => null_part(alloc, place, x, number, cs_type),
+        Dotted::Property(member, cs_type) => null_property(alloc, place, x, member, cs_type),
         Dotted::Method(_, _, _) => Err(mismatch(x.place)),
         Dotted::Invoke(_) => Err(mismatch(x.place)),
     }

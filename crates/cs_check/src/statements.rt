@@ -155,7 +155,7 @@ fn prepared(
 }
 
 /// A local.
-#[tactic(auto, unfolding(cs_rules::specs::Statements::local), using(crate::proofs::ScopeLemmas::kept_self, crate::proofs::ScopeLemmas::restored))]
+#[tactic(auto, unfolding(cs_rules::specs::Statements::local), using(crate::proofs::ScopeLemmas::kept_self))]
 fn local(
     names: &mut Names<'_>,
     cs_type: &Option<TypeExpr>,
@@ -268,7 +268,6 @@ fn for_each_code(alloc: Global, list: Code, turn: Code) -> Result<Code, AllocErr
 
 /// What a statement comes to.
 #[cycle(statements)]
-#[tactic(auto, using(cs_rules::proofs::Laws::statement_law))]
 fn statement(names: &mut Names<'_>, one: &Stmt) -> Result<Code, CheckFault>
     ensures does { AgreesBy (λ code. spec.done (scope_of names.new) code) result (statement_of one.now (scope_of names.old)) }
     ensures scope { names.new.scope ≡ names.old.scope }
@@ -279,7 +278,7 @@ fn statement(names: &mut Names<'_>, one: &Stmt) -> Result<Code, CheckFault>
 
 /// The same by its form.
 #[cycle(statements)]
-#[tactic(auto, using(cs_rules::proofs::Laws::local_statement, cs_rules::proofs::Laws::empty_statement, cs_rules::proofs::Laws::block_statement, cs_rules::proofs::Laws::if_statement, cs_rules::proofs::Laws::while_statement, cs_rules::proofs::Laws::for_statement, cs_rules::proofs::Laws::for_each_statement, cs_rules::proofs::Laws::switch_statement, cs_rules::proofs::Laws::break_statement, cs_rules::proofs::Laws::continue_statement, cs_rules::proofs::Laws::return_statement, cs_rules::proofs::Laws::expr_statement, cs_rules::proofs::Laws::await_statement, crate::proofs::ScopeLemmas::kept_self, crate::proofs::ScopeLemmas::restored))]
+#[tactic(auto, using(crate::proofs::ScopeLemmas::kept_self))]
 fn form(names: &mut Names<'_>, place: Place, kind: &StmtKind) -> Result<Code, CheckFault>
     ensures does { AgreesBy (λ code. spec.done (scope_of names.new) code) result (statement_of_kind kind.now place (scope_of names.old)) }
     ensures scope { names.new.scope ≡ names.old.scope }
@@ -313,7 +312,7 @@ fn form(names: &mut Names<'_>, place: Place, kind: &StmtKind) -> Result<Code, Ch
 
 /// Statements, in order.
 #[cycle(statements)]
-#[tactic(auto, using(crate::proofs::FrontLemmas::front_none, crate::proofs::FrontLemmas::front_more, crate::proofs::FrontLemmas::front_end, crate::proofs::ScopeLemmas::kept_self, crate::proofs::ScopeLemmas::restored, crate::proofs::ScopeLemmas::kept_on))]
+#[tactic(auto, using(crate::proofs::FrontLemmas::front_none, crate::proofs::FrontLemmas::front_more, crate::proofs::FrontLemmas::front_end, crate::proofs::ScopeLemmas::kept_self, crate::proofs::ScopeLemmas::kept_on))]
 pub fn in_order(names: &mut Names<'_>, body: &[Stmt]) -> Result<Items<Code>, CheckFault>
     ensures does { Agrees result (spec.in_order (map statement_of body.now) (scope_of names.old)) }
     ensures scope { names.new.scope ≡ names.old.scope }
@@ -371,28 +370,28 @@ fn optional_alone(
 }
 
 #[cycle(statements)]
-#[tactic(auto, unfolding(cs_rules::specs::Statements::block))]
+#[tactic(auto, unfolding(cs_rules::specs::Statements::block), using(crate::proofs::ScopeLemmas::kept_self))]
 fn block(names: &mut Names<'_>, body: &[Stmt]) -> Result<Code, CheckFault>
-    ensures does { AgreesBy (λ code. spec.done (scope_of names.old) code) result (spec.block (map statement_of body.now) (scope_of names.old)) }
+    ensures does { AgreesBy (λ code. spec.done (scope_of names.new) code) result (spec.block (map statement_of body.now) (scope_of names.old)) }
     ensures scope { names.new.scope ≡ names.old.scope }
-    ensures same { OnOk result (names.new.locals ≡ names.old.locals) }
+    ensures kept { OnOk result (take (length names.old.locals) names.new.locals ≡ names.old.locals) }
 {
     let codes = enclosed(names, body)?;
     Ok(Code::Block(codes))
 }
 
 #[cycle(statements)]
-#[tactic(auto, unfolding(cs_rules::specs::Statements::if_else))]
+#[tactic(auto, unfolding(cs_rules::specs::Statements::if_else), using(crate::proofs::ScopeLemmas::kept_self))]
 fn if_else(
     names: &mut Names<'_>,
     test: &Expr,
     yes: &Stmt,
     no: &Option<Boxed<Stmt>>,
 ) -> Result<Code, CheckFault>
-    ensures does { AgreesBy (λ code. spec.done (scope_of names.old) code) result
+    ensures does { AgreesBy (λ code. spec.done (scope_of names.new) code) result
         (spec.if_else (uses test.now).value (statement_of yes.now) (option_map statement_of no.now) (scope_of names.old)) }
     ensures scope { names.new.scope ≡ names.old.scope }
-    ensures same { OnOk result (names.new.locals ≡ names.old.locals) }
+    ensures kept { OnOk result (take (length names.old.locals) names.new.locals ≡ names.old.locals) }
 {
     let code = condition(names, test)?;
     let first = alone(names, yes)?;
@@ -401,12 +400,12 @@ fn if_else(
 }
 
 #[cycle(statements)]
-#[tactic(auto, unfolding(cs_rules::specs::Statements::while_loop))]
+#[tactic(auto, unfolding(cs_rules::specs::Statements::while_loop), using(crate::proofs::ScopeLemmas::kept_self))]
 fn while_loop(names: &mut Names<'_>, test: &Expr, body: &Stmt) -> Result<Code, CheckFault>
-    ensures does { AgreesBy (λ code. spec.done (scope_of names.old) code) result
+    ensures does { AgreesBy (λ code. spec.done (scope_of names.new) code) result
         (spec.while_loop (uses test.now).value (statement_of body.now) (scope_of names.old)) }
     ensures scope { names.new.scope ≡ names.old.scope }
-    ensures same { OnOk result (names.new.locals ≡ names.old.locals) }
+    ensures kept { OnOk result (take (length names.old.locals) names.new.locals ≡ names.old.locals) }
 {
     let code = condition(names, test)?;
     let turn = alone(names, body)?;
@@ -433,7 +432,7 @@ fn started(
 }
 
 #[cycle(statements)]
-#[tactic(auto, unfolding(cs_rules::specs::Statements::for_loop))]
+#[tactic(auto, unfolding(cs_rules::specs::Statements::for_loop), using(crate::proofs::ScopeLemmas::kept_self))]
 fn for_loop(
     names: &mut Names<'_>,
     start: &Option<Boxed<Stmt>>,
@@ -441,11 +440,11 @@ fn for_loop(
     step: &Option<Expr>,
     body: &Stmt,
 ) -> Result<Code, CheckFault>
-    ensures does { AgreesBy (λ code. spec.done (scope_of names.old) code) result
+    ensures does { AgreesBy (λ code. spec.done (scope_of names.new) code) result
         (spec.for_loop (option_map statement_of start.now) (option_map (λ x. x.value) (option_map uses test.now))
         (option_map (λ x. x.value) (option_map uses step.now)) (statement_of body.now) (scope_of names.old)) }
     ensures scope { names.new.scope ≡ names.old.scope }
-    ensures same { OnOk result (names.new.locals ≡ names.old.locals) }
+    ensures kept { OnOk result (take (length names.old.locals) names.new.locals ≡ names.old.locals) }
 {
     let depth = names.locals.len();
     let first = started(names, start)?;
@@ -456,17 +455,17 @@ fn for_loop(
 }
 
 #[cycle(statements)]
-#[tactic(auto, unfolding(cs_rules::specs::Statements::for_each))]
+#[tactic(auto, unfolding(cs_rules::specs::Statements::for_each), using(crate::proofs::ScopeLemmas::kept_self))]
 fn for_each(
     names: &mut Names<'_>,
     name: &Ident,
     list: &Expr,
     body: &Stmt,
 ) -> Result<Code, CheckFault>
-    ensures does { AgreesBy (λ code. spec.done (scope_of names.old) code) result
+    ensures does { AgreesBy (λ code. spec.done (scope_of names.new) code) result
         (spec.for_each name.now (uses list.now).value (statement_of body.now) (scope_of names.old)) }
     ensures scope { names.new.scope ≡ names.old.scope }
-    ensures same { OnOk result (names.new.locals ≡ names.old.locals) }
+    ensures kept { OnOk result (take (length names.old.locals) names.new.locals ≡ names.old.locals) }
 {
     names.is_new(name)?;
     let Listed { item, code } = list_of(names, list)?;
@@ -492,12 +491,13 @@ fn section(names: &mut Names<'_>, decided: &ExprType, it: &Section) -> Result<Co
 }
 
 #[cycle(statements)]
+#[tactic(auto, using(crate::proofs::FrontLemmas::front_none, crate::proofs::FrontLemmas::front_more, crate::proofs::FrontLemmas::front_end))]
 fn sections(
     names: &mut Names<'_>,
     decided: &ExprType,
     all: &[Section],
 ) -> Result<Items<Code>, CheckFault>
-    ensures does { Agrees result (each (λ it. section_of it decided.now (scope_of names.old)) all.now) }
+    ensures does { Agrees result (each (λ one. one decided.now (scope_of names.old)) (map section_of all.now)) }
     ensures scope { names.new.scope ≡ names.old.scope }
     ensures same { OnOk result (names.new.locals ≡ names.old.locals) }
 {
@@ -509,12 +509,12 @@ fn sections(
 }
 
 #[cycle(statements)]
-#[tactic(auto, unfolding(cs_rules::specs::Statements::switch_of), using(crate::proofs::ScopeLemmas::each_section))]
+#[tactic(auto, unfolding(cs_rules::specs::Statements::switch_of), using(crate::proofs::ScopeLemmas::kept_self))]
 fn switch(names: &mut Names<'_>, a: &Expr, all: &[Section]) -> Result<Code, CheckFault>
-    ensures does { AgreesBy (λ code. spec.done (scope_of names.old) code) result
+    ensures does { AgreesBy (λ code. spec.done (scope_of names.new) code) result
         (spec.switch_of (uses a.now).value (map section_of all.now) (scope_of names.old)) }
     ensures scope { names.new.scope ≡ names.old.scope }
-    ensures same { OnOk result (names.new.locals ≡ names.old.locals) }
+    ensures kept { OnOk result (take (length names.old.locals) names.new.locals ≡ names.old.locals) }
 {
     let x = value(names, a)?;
     if !decides(&x.expr_type) {

@@ -102,7 +102,7 @@ module _ (deed : Deed) where
   unfoldable pub done_by : StatementForm → Done
   done_by (StmtKind-F.Local cs_type name value) locals = if_there (λ a. a.done locals) value
   done_by (StmtKind-F.StmtKind::Block body) locals = in_order body locals
-  done_by (StmtKind-F.If test yes no) locals = test.done locals || (yes.done locals || if_there (λ one. one.done locals) no)
+  done_by (StmtKind-F.If test holds fails) locals = test.done locals || (holds.done locals || if_there (λ one. one.done locals) fails)
   done_by (StmtKind-F.While test body) locals = test.done locals || body.done locals
   done_by (StmtKind-F.For start test step body) locals =
       if_there (λ one. one.done locals) start

@@ -6,13 +6,13 @@
 #![tactic(auto)]
 
 mod deed;
-mod effects;
 mod expressions;
 mod locals;
 mod marks;
 mod members;
+mod methods;
 mod spreading;
 mod statements;
 
 pub use deed::Deed;
-pub use effects::effects;
+pub use methods::effects;

@@ -1,7 +1,7 @@
 use Rattle.std.proofs.Common.{◌≡◌, map, drop}
 use Rattle.cs_rules.specs.Judged.{each}
 use Rattle.cs_rules.specs.Expressions.{replacements, of_no_record}
-use Rattle.cs_rules.specs.Trees.{value_in, piece, given}
+use Rattle.cs_rules.specs.Trees.{uses, piece, given}
 use Rattle.cs_check.specs.Views.{scope_of, declared}
 use Rattle.cs_check.proofs.FrontLemmas.{with_front, in_front}
 use Rattle.cs_check.proofs.expressions.+expressions.Given as goal
@@ -9,11 +9,12 @@ use Rattle.cs_check.proofs.expressions.+expressions.Given as goal
 -- the values so far, and those of the rest
 abbrev pub invariant-values-loop-argument : goal.invariant-values-loop-argument
 invariant-values-loop-argument l =
-    each (value_in (scope_of l.names)) l.arguments ≡ with_front l.xs.items (each (value_in (scope_of l.names)) (drop l.argument-index l.arguments))
+    each (λ argument. argument (scope_of l.names)) (map (λ x. x.value) (map uses l.arguments))
+    ≡ with_front l.xs.items (each (λ argument. argument (scope_of l.names)) (map (λ x. x.value) (map uses (drop l.argument-index l.arguments))))
 
 abbrev pub invariant-pieces-loop-part : goal.invariant-pieces-loop-part
 invariant-pieces-loop-part l =
-    each (λ part. piece part (scope_of l.names)) l.parts ≡ with_front l.codes (each (λ part. piece part (scope_of l.names)) (drop l.part-index l.parts))
+    each (λ part. part (scope_of l.names)) (map piece l.parts) ≡ with_front l.codes (each (λ part. part (scope_of l.names)) (map piece (drop l.part-index l.parts)))
 
 abbrev pub invariant-replacements-loop-part : goal.invariant-replacements-loop-part
 invariant-replacements-loop-part l =

@@ -20,5 +20,5 @@ invariant-sections-loop-it l =
     record {
       scope : l.names.scope ≡ l.fn.names.scope;
       same : l.names.locals ≡ l.fn.names.locals;
-      codes : each (λ it. section it l.decided (scope_of l.fn.names)) l.all ≡ with_front l.codes (each (λ it. section it l.decided (scope_of l.fn.names)) (drop l.it-index l.all));
+      codes : each (λ one. one l.decided (scope_of l.fn.names)) (map section l.all) ≡ with_front l.codes (each (λ one. one l.decided (scope_of l.fn.names)) (map section (drop l.it-index l.all)));
     }

@@ -1,6 +1,6 @@
 use Rattle.std.proofs.Common.{◌≡◌, ◌++◌, length}
 use Rattle.cs_effects.specs.Spreading.{listed}
-use Rattle.cs_effects.proofs.effects.listed.Given as goal
+use Rattle.cs_effects.proofs.methods.listed.Given as goal
 
 -- the effects so far, and those of the rest
 abbrev pub invariant-loop-member : goal.invariant-loop-member
