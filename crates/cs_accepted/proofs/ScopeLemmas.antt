@@ -38,6 +38,7 @@ still_fits at locals more type number k (scope.getter h) = scope.getter h
 still_fits at locals more type number k (scope.method takes h) = scope.method takes h
 
 pub with_local_fits : (at : Surroundings) (locals : List CsType) (s : Scope) (name : List ℕ) (type : CsType) → ScopeFits at locals s → ScopeFits at (locals ++ type ∷ []) (with_local s name type)
+unfolding with_local
 with_local_fits at locals s name type fit =
     record {
       names = λ n one e. found n one (sym (ap (first_named n) (reverse-append s.names (local s.names name type ∷ []))) ∙ e);

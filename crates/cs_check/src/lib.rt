@@ -15,7 +15,6 @@ mod types;
 mod whole;
 mod written;
 
-pub use cs_effects::effects;
 pub use cs_rules::{Checked, ExprType, Rule};
 pub use fault::CheckFault;
 pub use whole::{check_body, check_expr};

@@ -293,15 +293,15 @@ fn form(names: &mut Names<'_>, place: Place, kind: &StmtKind) -> Result<Code, Ch
         StmtKind::Empty => Ok(Code::Empty),
         StmtKind::Block(body) => block(names, body.as_slice()),
         StmtKind::If { condition, yes, no } => if_else(names, condition, yes.get(), no),
-        StmtKind::While { condition, body } => while_loop(names, condition, body.get()),
+        StmtKind::While { condition, body } => while_loop(names, body.get(), condition),
         StmtKind::For {
             start,
             condition,
             step,
             body,
         } => for_loop(names, start, condition, step, body.get()),
-        StmtKind::ForEach { name, list, body } => for_each(names, name, list, body.get()),
-        StmtKind::Switch { value, sections } => switch(names, value, sections.as_slice()),
+        StmtKind::ForEach { name, list, body } => for_each(names, name, body.get(), list),
+        StmtKind::Switch { value, sections } => switch(names, sections.as_slice(), value),
         StmtKind::Break => Ok(Code::Break),
         StmtKind::Continue => Ok(Code::Continue),
         StmtKind::Return(a) => return_of(names, a, place),
@@ -401,7 +401,7 @@ fn if_else(
 
 #[cycle(statements)]
 #[tactic(auto, unfolding(cs_rules::specs::Statements::while_loop), using(crate::proofs::ScopeLemmas::kept_self))]
-fn while_loop(names: &mut Names<'_>, test: &Expr, body: &Stmt) -> Result<Code, CheckFault>
+fn while_loop(names: &mut Names<'_>, body: &Stmt, test: &Expr) -> Result<Code, CheckFault>
     ensures does { AgreesBy (λ code. spec.done (scope_of names.new) code) result
         (spec.while_loop (uses test.now).value (statement_of body.now) (scope_of names.old)) }
     ensures scope { names.new.scope ≡ names.old.scope }
@@ -459,8 +459,8 @@ fn for_loop(
 fn for_each(
     names: &mut Names<'_>,
     name: &Ident,
-    list: &Expr,
     body: &Stmt,
+    list: &Expr,
 ) -> Result<Code, CheckFault>
     ensures does { AgreesBy (λ code. spec.done (scope_of names.new) code) result
         (spec.for_each name.now (uses list.now).value (statement_of body.now) (scope_of names.old)) }
@@ -510,7 +510,7 @@ fn sections(
 
 #[cycle(statements)]
 #[tactic(auto, unfolding(cs_rules::specs::Statements::switch_of), using(crate::proofs::ScopeLemmas::kept_self))]
-fn switch(names: &mut Names<'_>, a: &Expr, all: &[Section]) -> Result<Code, CheckFault>
+fn switch(names: &mut Names<'_>, all: &[Section], a: &Expr) -> Result<Code, CheckFault>
     ensures does { AgreesBy (λ code. spec.done (scope_of names.new) code) result
         (spec.switch_of (uses a.now).value (map section_of all.now) (scope_of names.old)) }
     ensures scope { names.new.scope ≡ names.old.scope }

@@ -2,6 +2,7 @@
 use Rattle.std.proofs.Common.{◌≡◌, ℕ, List, [], ◌∷◌, ◌++◌, map, refl, sym, ap, ◌∙◌}
 use Rattle.std.specs.Prelude.{ℤ, Bool, true, false, ◌&&◌, ◌||◌, codes, Option, Some, None, option_map, bytes_eq}
 use Rattle.std.specs.List.{list_any}
+use Rattle.std.proofs.lemmas.List.{append-nil}
 use Rattle.cs_ast.specs.declared.cs_type.TypeExpr.{TypeExpr}
 use Rattle.cs_ast.specs.declared.expression.Body.{Body}
 use Rattle.cs_ast.specs.declared.expression.Body.TheVariants as bo
@@ -392,19 +393,6 @@ module _ (deed : Deed) where
   unfolding of_body of_kind of_statement_kind of_part of_expr of_section of_statement of_with body_done
   body_block_done body locals = ap (λ k. of_body deed k locals) (sym (bo.rolls-Block body)) ∙ ap (λ (f : Done). f locals) (fold-roll-Body Done Asked Stated Done Asked Done Stated Done (body_done deed) (asked deed) (stated deed) (part_done deed) (λ it. it.kind) (λ it. in_order it.body) (λ it. it.kind) (λ it. it.value.done) (Body-F.Body::Block body))
 
-  -- parts of lists
-  pub any_value : (locals : List (List ℕ)) (xs : List Expr) → list_any (λ x. x.done locals) (map (of_expr deed) xs) ≡ list_any (λ x. (of_expr deed x).done locals) xs
-  any_value locals [] = refl
-  any_value locals (x ∷ xs) = ap (λ b. (of_expr deed x).done locals || b) (any_value locals xs)
-
-  pub any_part : (locals : List (List ℕ)) (xs : List TextPart) → list_any (λ x. x locals) (map (of_part deed) xs) ≡ list_any (λ x. of_part deed x locals) xs
-  any_part locals [] = refl
-  any_part locals (x ∷ xs) = ap (λ b. of_part deed x locals || b) (any_part locals xs)
-
-  pub any_with : (locals : List (List ℕ)) (xs : List WithPart) → list_any (λ x. x locals) (map (of_with deed) xs) ≡ list_any (λ x. of_with deed x locals) xs
-  any_with locals [] = refl
-  any_with locals (x ∷ xs) = ap (λ b. of_with deed x locals || b) (any_with locals xs)
-
-  pub any_section : (locals : List (List ℕ)) (xs : List Section) → list_any (λ x. x locals) (map (of_section deed) xs) ≡ list_any (λ x. of_section deed x locals) xs
-  any_section locals [] = refl
-  any_section locals (x ∷ xs) = ap (λ b. of_section deed x locals || b) (any_section locals xs)
+-- a statement that declares nothing leaves the locals
+pub none_declared : (locals declares : List (List ℕ)) → declares ≡ [] → locals ++ declares ≡ locals
+none_declared locals declares none = ap (λ (d : List (List ℕ)). locals ++ d) none ∙ append-nil locals

@@ -9,8 +9,7 @@ use Rattle.cs_effects.specs.declared.deed.Deed.{Deed}
 use Rattle.cs_effects.specs.declared.deed.Deed.TheVariants.{Changes, Invokes, Runs}
 use Rattle.cs_effects.specs.declared.marks.Mark.{Mark}
 use Rattle.cs_effects.specs.declared.marks.Mark.TheVariants.{Clear, Waiting, Spread}
-use Rattle.cs_effects.specs.Effects.{method_name, does_itself, fields, Does, itself, through, Told}
-use Rattle.cs_effects.specs.Effects.Told as told
+use Rattle.cs_effects.specs.Effects.{method_name, does_itself, fields, Does, itself, through, Told, end as told_end, other as told_other, method as told_method}
 use Rattle.cs_effects.specs.Spreading.{is_marked, is_waiting, weight, weights, first_mark, touched, touch, spread_by, name_of, spread, with_effect, listed, Aligned, Stands, Found}
 
 -- lists of marks
@@ -318,13 +317,13 @@ module _ (members : List Member) where
   told_one : (x : Member) (xs : List Member) (change invoke : Mark) (rest : List Effect) (o : Option (List ℕ)) → method_name x.kind ≡ o
     → IsTrue (is_marked change) ↔ Does members (Changes (fields members)) x.kind → IsTrue (is_marked invoke) ↔ Does members Invokes x.kind
     → Told members xs rest → Told members (x ∷ xs) (with_effect o change invoke rest)
-  told_one x xs change invoke rest None is a b h = told.other x xs rest is h
+  told_one x xs change invoke rest None is a b h = told_other x xs rest is h
   told_one x xs change invoke rest (Some name) is a b h =
-      told.method x xs (record { method = name; changes = is_marked change; invokes = is_marked invoke }) rest is a b h
+      told_method x xs (record { method = name; changes = is_marked change; invokes = is_marked invoke }) rest is a b h
 
   told_all : (ms : List Member) (changes invokes : List Mark) → Aligned ms changes → Aligned ms invokes
     → Exact (Changes (fields members)) ms changes → Exact Invokes ms invokes → Told members ms (listed ms changes invokes)
-  told_all [] changes invokes a b c d = told.end
+  told_all [] changes invokes a b c d = told_end
   told_all (x ∷ xs) [] invokes a b c d = absurd a
   told_all (x ∷ xs) (y ∷ ys) [] a b c d = absurd b
   told_all (x ∷ xs) (y ∷ ys) (z ∷ zs) a b c d =

@@ -1,5 +1,5 @@
 // Whether expressions do a deed.
-ghost use Rattle.std.specs.Prelude.{◌≡◌, ◌&&◌, ◌||◌, map, bytes_eq};
+ghost use Rattle.std.specs.Prelude.{◌≡◌, ◌&&◌, ◌||◌, map, bytes_eq, codes};
 ghost use Rattle.std.specs.List.{list_any};
 ghost use Rattle.cs_effects.specs.Deeds as spec;
 
@@ -50,13 +50,19 @@ fn by_invoking(deed: &Deed) -> bool
     }
 }
 
+fn is_invocation(deed: &Deed, name: &Txt) -> bool
+    ensures { result ≡ (bytes_eq name.now (codes "InvokeAsync") && spec.by_invoking deed.now) }
+{
+    name.is("InvokeAsync") && by_invoking(deed)
+}
+
 /// Whether a call of it is one of `InvokeAsync`, and that is the deed.
 #[tactic(auto, using(crate::proofs::DeedLaws::int_invokes, crate::proofs::DeedLaws::bool_invokes, crate::proofs::DeedLaws::text_invokes, crate::proofs::DeedLaws::null_invokes, crate::proofs::DeedLaws::interpolated_invokes, crate::proofs::DeedLaws::name_invokes, crate::proofs::DeedLaws::unary_invokes, crate::proofs::DeedLaws::cast_invokes, crate::proofs::DeedLaws::binary_invokes, crate::proofs::DeedLaws::conditional_invokes, crate::proofs::DeedLaws::with_invokes, crate::proofs::DeedLaws::member_invokes, crate::proofs::DeedLaws::null_member_invokes, crate::proofs::DeedLaws::call_invokes, crate::proofs::DeedLaws::index_invokes, crate::proofs::DeedLaws::new_invokes, crate::proofs::DeedLaws::empty_list_invokes, crate::proofs::DeedLaws::static_invokes, crate::proofs::DeedLaws::assign_invokes, crate::proofs::DeedLaws::step_invokes, crate::proofs::DeedLaws::lambda_invokes))]
 fn invokes(deed: &Deed, kind: &ExprKind) -> bool
     ensures { result ≡ ((spec.of_kind deed.now kind.now).invokes && spec.by_invoking deed.now) }
 {
     match kind {
-        ExprKind::Member(_, name) => name.name.is("InvokeAsync") && by_invoking(deed),
+        ExprKind::Member(_, name) => is_invocation(deed, &name.name),
         ExprKind::Int(_) => false,
         ExprKind::Bool(_) => false,
         ExprKind::Text(_) => false,
@@ -103,7 +109,7 @@ pub fn does(deed: &Deed, locals: &[Txt], e: &Expr) -> bool
 
 /// The same by its form.
 #[cycle(expressions)]
-#[tactic(auto, using(crate::proofs::DeedLaws::int_done, crate::proofs::DeedLaws::bool_done, crate::proofs::DeedLaws::text_done, crate::proofs::DeedLaws::null_done, crate::proofs::DeedLaws::interpolated_done, crate::proofs::DeedLaws::name_done, crate::proofs::DeedLaws::unary_done, crate::proofs::DeedLaws::cast_done, crate::proofs::DeedLaws::binary_done, crate::proofs::DeedLaws::conditional_done, crate::proofs::DeedLaws::with_done, crate::proofs::DeedLaws::member_done, crate::proofs::DeedLaws::null_member_done, crate::proofs::DeedLaws::call_done, crate::proofs::DeedLaws::index_done, crate::proofs::DeedLaws::new_done, crate::proofs::DeedLaws::empty_list_done, crate::proofs::DeedLaws::static_done, crate::proofs::DeedLaws::assign_done, crate::proofs::DeedLaws::step_done, crate::proofs::DeedLaws::lambda_done))]
+#[tactic(auto, using(crate::proofs::DeedLaws::expr_law, crate::proofs::DeedLaws::int_done, crate::proofs::DeedLaws::bool_done, crate::proofs::DeedLaws::text_done, crate::proofs::DeedLaws::null_done, crate::proofs::DeedLaws::interpolated_done, crate::proofs::DeedLaws::name_done, crate::proofs::DeedLaws::unary_done, crate::proofs::DeedLaws::cast_done, crate::proofs::DeedLaws::binary_done, crate::proofs::DeedLaws::conditional_done, crate::proofs::DeedLaws::with_done, crate::proofs::DeedLaws::member_done, crate::proofs::DeedLaws::null_member_done, crate::proofs::DeedLaws::call_done, crate::proofs::DeedLaws::index_done, crate::proofs::DeedLaws::new_done, crate::proofs::DeedLaws::empty_list_done, crate::proofs::DeedLaws::static_done, crate::proofs::DeedLaws::assign_done, crate::proofs::DeedLaws::step_done, crate::proofs::DeedLaws::lambda_done))]
 fn form(deed: &Deed, locals: &[Txt], kind: &ExprKind) -> bool
     ensures { result ≡ (spec.of_kind deed.now kind.now).done locals.now }
 {
@@ -116,17 +122,24 @@ fn form(deed: &Deed, locals: &[Txt], kind: &ExprKind) -> bool
         ExprKind::Name(name) => is_used(deed, locals, name),
         ExprKind::Unary(_, a) => does(deed, locals, a.get()),
         ExprKind::Cast(_, a) => does(deed, locals, a.get()),
-        ExprKind::Binary(_, a, b) => either(deed, locals, a.get(), b.get()),
-        ExprKind::Conditional(test, a, b) => {
-            one_of(deed, locals, test.get(), a.get(), b.get())
+        ExprKind::Binary(_, a, b) => {
+            does(deed, locals, a.get()) || does(deed, locals, b.get())
         }
-        ExprKind::With(a, parts) => with_parts(deed, locals, a.get(), parts.as_slice()),
+        ExprKind::Conditional(test, a, b) => {
+            does(deed, locals, test.get())
+                || (does(deed, locals, a.get()) || does(deed, locals, b.get()))
+        }
+        ExprKind::With(a, parts) => {
+            does(deed, locals, a.get()) || any_with(deed, locals, parts.as_slice())
+        }
         ExprKind::Member(a, _) => does(deed, locals, a.get()),
         ExprKind::NullMember(a, _) => does(deed, locals, a.get()),
         ExprKind::Call(target, arguments) => {
-            call(deed, locals, target.get(), arguments.as_slice())
+            invokes(deed, &target.get().kind)
+                || (does(deed, locals, target.get())
+                    || any_of(deed, locals, arguments.as_slice()))
         }
-        ExprKind::Index(a, b) => either(deed, locals, a.get(), b.get()),
+        ExprKind::Index(a, b) => does(deed, locals, a.get()) || does(deed, locals, b.get()),
         ExprKind::New(_, arguments) => any_of(deed, locals, arguments.as_slice()),
         ExprKind::EmptyList(_) => false,
         ExprKind::Static(_, _) => false,
@@ -137,22 +150,6 @@ fn form(deed: &Deed, locals: &[Txt], kind: &ExprKind) -> bool
 }
 
 #[cycle(expressions)]
-fn either(deed: &Deed, locals: &[Txt], a: &Expr, b: &Expr) -> bool
-    ensures { result ≡ ((spec.of_expr deed.now a.now).done locals.now || (spec.of_expr deed.now b.now).done locals.now) }
-{
-    does(deed, locals, a) || does(deed, locals, b)
-}
-
-#[cycle(expressions)]
-fn one_of(deed: &Deed, locals: &[Txt], test: &Expr, a: &Expr, b: &Expr) -> bool
-    ensures { result ≡ ((spec.of_expr deed.now test.now).done locals.now
-        || ((spec.of_expr deed.now a.now).done locals.now || (spec.of_expr deed.now b.now).done locals.now)) }
-{
-    does(deed, locals, test) || either(deed, locals, a, b)
-}
-
-#[cycle(expressions)]
-#[tactic(auto, using(crate::proofs::DeedLaws::any_value))]
 fn any_of(deed: &Deed, locals: &[Txt], all: &[Expr]) -> bool
     ensures { result ≡ list_any (λ x. x.done locals.now) (map (spec.of_expr deed.now) all.now) }
 {
@@ -177,7 +174,6 @@ fn part(deed: &Deed, locals: &[Txt], it: &TextPart) -> bool
 }
 
 #[cycle(expressions)]
-#[tactic(auto, using(crate::proofs::DeedLaws::any_part))]
 fn any_part(deed: &Deed, locals: &[Txt], all: &[TextPart]) -> bool
     ensures { result ≡ list_any (λ x. x locals.now) (map (spec.of_part deed.now) all.now) }
 {
@@ -190,31 +186,16 @@ fn any_part(deed: &Deed, locals: &[Txt], all: &[TextPart]) -> bool
 }
 
 #[cycle(expressions)]
-#[tactic(auto, using(crate::proofs::DeedLaws::with_law, crate::proofs::DeedLaws::any_with))]
-fn with_parts(deed: &Deed, locals: &[Txt], a: &Expr, all: &[WithPart]) -> bool
-    ensures { result ≡ ((spec.of_expr deed.now a.now).done locals.now || list_any (λ x. x locals.now) (map (spec.of_with deed.now) all.now)) }
+#[tactic(auto, using(crate::proofs::DeedLaws::with_law))]
+fn any_with(deed: &Deed, locals: &[Txt], all: &[WithPart]) -> bool
+    ensures { result ≡ list_any (λ x. x locals.now) (map (spec.of_with deed.now) all.now) }
 {
-    if does(deed, locals, a) {
-        return true;
-    }
     for one in all {
         if does(deed, locals, &one.value) {
             return true;
         }
     }
     false
-}
-
-#[cycle(expressions)]
-#[tactic(auto, using(crate::proofs::DeedLaws::expr_law))]
-fn call(deed: &Deed, locals: &[Txt], target: &Expr, arguments: &[Expr]) -> bool
-    ensures { result ≡ (((spec.of_expr deed.now target.now).invokes && spec.by_invoking deed.now)
-        || ((spec.of_expr deed.now target.now).done locals.now || list_any (λ x. x.done locals.now) (map (spec.of_expr deed.now) arguments.now))) }
-{
-    if invokes(deed, &target.kind) {
-        return true;
-    }
-    does(deed, locals, target) || any_of(deed, locals, arguments)
 }
 
 #[cycle(expressions)]

@@ -12,7 +12,7 @@ use std::alloc::Global;
 use text_core::{Oom, Txt};
 
 /// Puts the name of the local that is declared by a form behind the others.
-#[tactic(auto, using(crate::proofs::DeedLaws::local_declares, crate::proofs::DeedLaws::empty_declares, crate::proofs::DeedLaws::block_declares, crate::proofs::DeedLaws::if_declares, crate::proofs::DeedLaws::while_declares, crate::proofs::DeedLaws::for_declares, crate::proofs::DeedLaws::for_each_declares, crate::proofs::DeedLaws::switch_declares, crate::proofs::DeedLaws::break_declares, crate::proofs::DeedLaws::continue_declares, crate::proofs::DeedLaws::return_declares, crate::proofs::DeedLaws::expr_declares, crate::proofs::DeedLaws::await_declares))]
+#[tactic(auto, using(crate::proofs::DeedLaws::none_declared, crate::proofs::DeedLaws::local_declares, crate::proofs::DeedLaws::empty_declares, crate::proofs::DeedLaws::block_declares, crate::proofs::DeedLaws::if_declares, crate::proofs::DeedLaws::while_declares, crate::proofs::DeedLaws::for_declares, crate::proofs::DeedLaws::for_each_declares, crate::proofs::DeedLaws::switch_declares, crate::proofs::DeedLaws::break_declares, crate::proofs::DeedLaws::continue_declares, crate::proofs::DeedLaws::return_declares, crate::proofs::DeedLaws::expr_declares, crate::proofs::DeedLaws::await_declares))]
 fn declare(deed: &Deed, locals: &mut Items<Txt>, kind: &StmtKind) -> Result<(), Oom>
     ensures { OnOk result (locals.new ≡ locals.old ++ (spec.of_statement_kind deed.now kind.now).declares) }
 {
@@ -66,7 +66,7 @@ fn form(alloc: Global, deed: &Deed, locals: &[Txt], kind: &StmtKind) -> Result<b
             if_else(alloc, deed, locals, condition, yes.get(), no)
         }
         StmtKind::While { condition, body } => {
-            while_loop(alloc, deed, locals, condition, body.get())
+            while_loop(alloc, deed, locals, body.get(), condition)
         }
         StmtKind::For {
             start,
@@ -75,10 +75,10 @@ fn form(alloc: Global, deed: &Deed, locals: &[Txt], kind: &StmtKind) -> Result<b
             body,
         } => for_loop(alloc, deed, locals, start, condition, step, body.get()),
         StmtKind::ForEach { name, list, body } => {
-            for_each(alloc, deed, locals, &name.name, list, body.get())
+            for_each(alloc, deed, locals, &name.name, body.get(), list)
         }
         StmtKind::Switch { value, sections } => {
-            switch(alloc, deed, locals, value, sections.as_slice())
+            switch(alloc, deed, locals, sections.as_slice(), value)
         }
         StmtKind::Break => Ok(false),
         StmtKind::Continue => Ok(false),
@@ -140,8 +140,8 @@ fn while_loop(
     alloc: Global,
     deed: &Deed,
     locals: &[Txt],
-    condition: &Expr,
     body: &Stmt,
+    condition: &Expr,
 ) -> Result<bool, Oom>
     ensures { IfOk result (λ yes. yes ≡ ((spec.of_expr deed.now condition.now).done locals.now || (spec.of_statement deed.now body.now).done locals.now)) }
 {
@@ -205,8 +205,8 @@ fn for_each(
     deed: &Deed,
     locals: &[Txt],
     name: &Txt,
-    list: &Expr,
     body: &Stmt,
+    list: &Expr,
 ) -> Result<bool, Oom>
     ensures { IfOk result (λ yes. yes ≡ ((spec.of_expr deed.now list.now).done locals.now || (spec.of_statement deed.now body.now).done (locals.now ++ name.now ∷ []))) }
 {
@@ -226,13 +226,12 @@ fn section(alloc: Global, deed: &Deed, locals: &[Txt], it: &Section) -> Result<b
 }
 
 #[cycle(statements)]
-#[tactic(auto, using(crate::proofs::DeedLaws::any_section))]
 fn switch(
     alloc: Global,
     deed: &Deed,
     locals: &[Txt],
-    value: &Expr,
     sections: &[Section],
+    value: &Expr,
 ) -> Result<bool, Oom>
     ensures { IfOk result (λ yes. yes ≡ ((spec.of_expr deed.now value.now).done locals.now || list_any (λ one. one locals.now) (map (spec.of_section deed.now) sections.now))) }
 {
