@@ -1,7 +1,8 @@
-// Rules at small trees: which rule is broken where, which type there is otherwise, and the code of names.
+// Rules at small bodies: which is told at which column, and what comes of code that breaks none.
 use crate::{CheckFault, ExprType, Rule, check_body, check_expr};
 use cs_ast::{
     AssignOp, BinaryOp, Code, CsType, Expr, ExprKind, Ident, NameKind, Named, Scope, Stmt, StmtKind,
+    TypeExpr, TypeKind,
 };
 use sqlite_items::{Boxed, Items};
 use std::alloc::Global;
@@ -27,16 +28,8 @@ fn truth(column: u32) -> Expr {
     expr(column, ExprKind::Bool(true))
 }
 
-fn null(column: u32) -> Expr {
-    expr(column, ExprKind::Null)
-}
-
 fn name(alloc: Global, column: u32, text: &str) -> Result<Expr, Oom> {
     Ok(expr(column, ExprKind::Name(Txt::from_str(alloc, text)?)))
-}
-
-fn text(alloc: Global, column: u32) -> Result<Expr, Oom> {
-    Ok(expr(column, ExprKind::Text(Txt::from_str(alloc, "a")?)))
 }
 
 fn ident(alloc: Global, column: u32, text: &str) -> Result<Ident, Oom> {
@@ -47,6 +40,7 @@ fn ident(alloc: Global, column: u32, text: &str) -> Result<Ident, Oom> {
     })
 }
 
+/// An operator between two operands, which begins with the first.
 fn binary(alloc: Global, op: BinaryOp, a: Expr, b: Expr) -> Result<Expr, Oom> {
     let place = a.place;
     let a = Boxed::new(alloc, a)?;
@@ -54,6 +48,49 @@ fn binary(alloc: Global, op: BinaryOp, a: Expr, b: Expr) -> Result<Expr, Oom> {
     Ok(Expr {
         place,
         kind: ExprKind::Binary(op, a, b),
+    })
+}
+
+/// `target = value`
+fn assignment(alloc: Global, target: &str, value: Expr) -> Result<Expr, Oom> {
+    let target = ident(alloc, 1, target)?;
+    let value = Boxed::new(alloc, value)?;
+    Ok(expr(1, ExprKind::Assign(AssignOp::Set, target, value)))
+}
+
+/// `F(argument)`, or `F()`.
+fn call(alloc: Global, argument: Option<Expr>) -> Result<Expr, Oom> {
+    let target = Boxed::new(alloc, name(alloc, 1, "F")?)?;
+    let mut arguments = Items::new(alloc);
+    if let Some(argument) = argument {
+        arguments.push(argument)?;
+    }
+    Ok(expr(1, ExprKind::Call(target, arguments)))
+}
+
+/// `value;`
+fn perform(value: Expr) -> Stmt {
+    Stmt {
+        place: value.place,
+        kind: StmtKind::Expr(value),
+    }
+}
+
+/// `T x = value;`, or with `var`, or without a value.
+fn local(
+    alloc: Global,
+    cs_type: Option<TypeExpr>,
+    text: &str,
+    value: Option<Expr>,
+) -> Result<Stmt, Oom> {
+    let name = ident(alloc, 5, text)?;
+    Ok(Stmt {
+        place: at(1),
+        kind: StmtKind::Local {
+            cs_type,
+            name,
+            value,
+        },
     })
 }
 
@@ -90,153 +127,116 @@ fn scope(alloc: Global) -> Result<Scope, Oom> {
     })
 }
 
-/// The column of the place where the expression breaks the rule, or 0.
-fn breaks(alloc: Global, e: &Expr, rule: Rule) -> Result<u32, Oom> {
+/// A body, the rule that it breaks, and the column.
+#[derive(Drop)]
+struct Case {
+    body: Items<Stmt>,
+    rule: Rule,
+    column: u32,
+}
+
+fn case(alloc: Global, statement: Stmt, rule: Rule, column: u32) -> Result<Case, Oom> {
+    let mut body = Items::new(alloc);
+    body.push(statement)?;
+    Ok(Case { body, rule, column })
+}
+
+fn of_names(alloc: Global, cases: &mut Vec<Case>) -> Result<(), Oom> {
+    // var s = 1; z; Z x = 1; var x;
+    let again = local(alloc, None, "s", Some(int(9)))?;
+    cases.push(case(alloc, again, Rule::DuplicateName, 5)?)?;
+    let nothing = perform(name(alloc, 3, "z")?);
+    cases.push(case(alloc, nothing, Rule::UnknownName, 3)?)?;
+    let written = TypeExpr {
+        place: at(1),
+        kind: TypeKind::Named(Txt::from_str(alloc, "Z")?),
+    };
+    let untyped = local(alloc, Some(written), "x", Some(int(9)))?;
+    cases.push(case(alloc, untyped, Rule::UnknownType, 1)?)?;
+    let unset = local(alloc, None, "x", None)?;
+    cases.push(case(alloc, unset, Rule::NotAssigned, 5)?)?;
+    Ok(())
+}
+
+fn of_types(alloc: Global, cases: &mut Vec<Case>) -> Result<(), Oom> {
+    // 1 + true; true - 1; 1 == true; F(); F(true); return 1; where nothing is wanted
+    let second = binary(alloc, BinaryOp::Add, int(1), truth(5))?;
+    cases.push(case(alloc, perform(second), Rule::TypeMismatch, 5)?)?;
+    let first = binary(alloc, BinaryOp::Subtract, truth(1), int(8))?;
+    cases.push(case(alloc, perform(first), Rule::TypeMismatch, 1)?)?;
+    let pair = binary(alloc, BinaryOp::Equal, int(1), truth(6))?;
+    cases.push(case(alloc, perform(pair), Rule::TypeMismatch, 6)?)?;
+    let none = call(alloc, None)?;
+    cases.push(case(alloc, perform(none), Rule::TypeMismatch, 1)?)?;
+    let wrong = call(alloc, Some(truth(3)))?;
+    cases.push(case(alloc, perform(wrong), Rule::TypeMismatch, 3)?)?;
+    let returned = Stmt {
+        place: at(1),
+        kind: StmtKind::Return(Some(int(8))),
+    };
+    cases.push(case(alloc, returned, Rule::TypeMismatch, 8)?)?;
+    Ok(())
+}
+
+fn of_changes(alloc: Global, cases: &mut Vec<Case>) -> Result<(), Oom> {
+    // P = 1; P = 1 + true; n = true;
+    let parameter = assignment(alloc, "P", int(5))?;
+    cases.push(case(alloc, perform(parameter), Rule::ParameterAssigned, 1)?)?;
+    let value = binary(alloc, BinaryOp::Add, int(5), truth(9))?;
+    let part = assignment(alloc, "P", value)?;
+    cases.push(case(alloc, perform(part), Rule::TypeMismatch, 9)?)?;
+    let changed = assignment(alloc, "n", truth(5))?;
+    cases.push(case(alloc, perform(changed), Rule::TypeMismatch, 5)?)?;
+    Ok(())
+}
+
+/// Two rules are broken: the first is told.
+fn of_two(alloc: Global, cases: &mut Vec<Case>) -> Result<(), Oom> {
+    // P = 1; z;
+    let mut body = Items::new(alloc);
+    body.push(perform(assignment(alloc, "P", int(5))?))?;
+    body.push(perform(name(alloc, 9, "z")?))?;
+    cases.push(Case {
+        body,
+        rule: Rule::ParameterAssigned,
+        column: 1,
+    })?;
+    Ok(())
+}
+
+/// The column where a body breaks a rule first, or 0.
+fn breaks(alloc: Global, body: &[Stmt], rule: Rule) -> Result<u32, Oom> {
     let scope = scope(alloc)?;
-    match check_expr(alloc, e, &scope) {
+    match check_body(alloc, body, &scope) {
         Err(CheckFault::Broken { rule: found, place }) if found == rule => Ok(place.column),
         _ => Ok(0),
     }
 }
 
 #[test]
-fn operands_are_named_from_the_left(rt: HostRuntime) -> Result<(), Fail> {
+fn each_rule_is_told_at_its_place(rt: HostRuntime) -> Result<(), Fail> {
     let alloc = rt.alloc();
-    // 1 + true, true - 1, true + 1
-    let e = binary(alloc, BinaryOp::Add, int(1), truth(5))?;
-    assert_eq!(rt; breaks(alloc, &e, Rule::TypeMismatch)?, 5);
-    let e = binary(alloc, BinaryOp::Subtract, truth(1), int(8))?;
-    assert_eq!(rt; breaks(alloc, &e, Rule::TypeMismatch)?, 1);
-    let e = binary(alloc, BinaryOp::Add, truth(1), int(8))?;
-    assert_eq!(rt; breaks(alloc, &e, Rule::TypeMismatch)?, 1);
-    Ok(())
-}
-
-#[test]
-fn a_wrong_pair_is_named_at_its_second(rt: HostRuntime) -> Result<(), Fail> {
-    let alloc = rt.alloc();
-    // 1 == "a", n ?? 1, s == null
-    let e = binary(alloc, BinaryOp::Equal, int(1), text(alloc, 6)?)?;
-    assert_eq!(rt; breaks(alloc, &e, Rule::TypeMismatch)?, 6);
-    let e = binary(alloc, BinaryOp::Coalesce, name(alloc, 1, "n")?, int(6))?;
-    assert_eq!(rt; breaks(alloc, &e, Rule::TypeMismatch)?, 1);
-    let e = binary(alloc, BinaryOp::Equal, null(1), int(9))?;
-    assert_eq!(rt; breaks(alloc, &e, Rule::TypeMismatch)?, 9);
-    Ok(())
-}
-
-#[test]
-fn names_stand_for_something(rt: HostRuntime) -> Result<(), Fail> {
-    let alloc = rt.alloc();
-    // z, F
-    let e = name(alloc, 3, "z")?;
-    assert_eq!(rt; breaks(alloc, &e, Rule::UnknownName)?, 3);
-    let e = name(alloc, 3, "F")?;
-    assert_eq!(rt; breaks(alloc, &e, Rule::TypeMismatch)?, 3);
-    Ok(())
-}
-
-fn assignment(alloc: Global, target: &str, value: Expr) -> Result<Expr, Oom> {
-    let target = ident(alloc, 1, target)?;
-    let value = Boxed::new(alloc, value)?;
-    Ok(expr(1, ExprKind::Assign(AssignOp::Set, target, value)))
-}
-
-#[test]
-fn parameters_are_not_assigned(rt: HostRuntime) -> Result<(), Fail> {
-    let alloc = rt.alloc();
-    // P = 1, P = 1 + true, n = true
-    let e = assignment(alloc, "P", int(5))?;
-    assert_eq!(rt; breaks(alloc, &e, Rule::ParameterAssigned)?, 1);
-    let value = binary(alloc, BinaryOp::Add, int(5), truth(9))?;
-    let e = assignment(alloc, "P", value)?;
-    assert_eq!(rt; breaks(alloc, &e, Rule::TypeMismatch)?, 9);
-    let e = assignment(alloc, "n", truth(5))?;
-    assert_eq!(rt; breaks(alloc, &e, Rule::TypeMismatch)?, 5);
-    Ok(())
-}
-
-fn call(alloc: Global, argument: Option<Expr>) -> Result<Expr, Oom> {
-    let target = Boxed::new(alloc, name(alloc, 1, "F")?)?;
-    let mut arguments = Items::new(alloc);
-    if let Some(argument) = argument {
-        arguments.push(argument)?;
+    let mut cases = Vec::new(alloc);
+    of_names(alloc, &mut cases)?;
+    of_types(alloc, &mut cases)?;
+    of_changes(alloc, &mut cases)?;
+    of_two(alloc, &mut cases)?;
+    for case in &cases {
+        assert_eq!(rt; breaks(alloc, case.body.as_slice(), case.rule)?, case.column);
     }
-    Ok(expr(1, ExprKind::Call(target, arguments)))
-}
-
-#[test]
-fn arguments_are_as_many_as_wanted(rt: HostRuntime) -> Result<(), Fail> {
-    let alloc = rt.alloc();
-    // F(), F("a"), F(1)
-    let e = call(alloc, None)?;
-    assert_eq!(rt; breaks(alloc, &e, Rule::TypeMismatch)?, 1);
-    let e = call(alloc, Some(text(alloc, 3)?))?;
-    assert_eq!(rt; breaks(alloc, &e, Rule::TypeMismatch)?, 3);
-    let scope = scope(alloc)?;
-    let e = call(alloc, Some(int(3)))?;
-    let x = check_expr(alloc, &e, &scope)?;
-    assert!(rt; matches!(x.code, Code::Call(9, _)));
-    assert!(rt; matches!(x.expr_type, ExprType::Of(CsType::Int)));
     Ok(())
 }
 
 #[test]
-fn the_innermost_name_is_meant(rt: HostRuntime) -> Result<(), Fail> {
+fn names_become_numbers(rt: HostRuntime) -> Result<(), Fail> {
     let alloc = rt.alloc();
     let scope = scope(alloc)?;
     let x = check_expr(alloc, &name(alloc, 1, "n")?, &scope)?;
     assert!(rt; matches!(x.code, Code::Local(1)));
     let x = check_expr(alloc, &name(alloc, 1, "P")?, &scope)?;
     assert!(rt; matches!(x.code, Code::Parameter(3)));
-    Ok(())
-}
-
-/// `var x = value;`
-fn local(alloc: Global, text: &str, value: Option<Expr>) -> Result<Stmt, Oom> {
-    let name = ident(alloc, 5, text)?;
-    Ok(Stmt {
-        place: at(1),
-        kind: StmtKind::Local {
-            cs_type: None,
-            name,
-            value,
-        },
-    })
-}
-
-/// The column where the statement breaks the rule, or 0.
-fn body_breaks(alloc: Global, statement: Stmt, rule: Rule) -> Result<u32, Oom> {
-    let scope = scope(alloc)?;
-    let mut body = Items::new(alloc);
-    body.push(statement)?;
-    match check_body(alloc, body.as_slice(), &scope) {
-        Err(CheckFault::Broken { rule: found, place }) if found == rule => Ok(place.column),
-        _ => Ok(0),
-    }
-}
-
-#[test]
-fn locals_have_new_names_and_values(rt: HostRuntime) -> Result<(), Fail> {
-    let alloc = rt.alloc();
-    // var s = 1; var x; var x = null;
-    let statement = local(alloc, "s", Some(int(9)))?;
-    assert_eq!(rt; body_breaks(alloc, statement, Rule::DuplicateName)?, 5);
-    let statement = local(alloc, "x", None)?;
-    assert_eq!(rt; body_breaks(alloc, statement, Rule::NotAssigned)?, 5);
-    let statement = local(alloc, "x", Some(null(9)))?;
-    assert_eq!(rt; body_breaks(alloc, statement, Rule::TypeMismatch)?, 9);
-    Ok(())
-}
-
-#[test]
-fn a_result_is_returned_where_one_is_wanted(rt: HostRuntime) -> Result<(), Fail> {
-    let alloc = rt.alloc();
-    // return 1; where nothing is wanted
-    let statement = Stmt {
-        place: at(1),
-        kind: StmtKind::Return(Some(int(8))),
-    };
-    assert_eq!(rt; body_breaks(alloc, statement, Rule::TypeMismatch)?, 8);
+    let x = check_expr(alloc, &call(alloc, Some(int(3)))?, &scope)?;
+    assert!(rt; matches!(x.code, Code::Call(9, _)));
+    assert!(rt; matches!(x.expr_type, ExprType::Of(CsType::Int)));
     Ok(())
 }
