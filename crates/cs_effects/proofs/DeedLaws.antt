@@ -396,3 +396,10 @@ module _ (deed : Deed) where
 -- a statement that declares nothing leaves the locals
 pub none_declared : (locals declares : List (List ℕ)) → declares ≡ [] → locals ++ declares ≡ locals
 none_declared locals declares none = ap (λ (d : List (List ℕ)). locals ++ d) none ∙ append-nil locals
+
+-- behind a statement that does not do it
+pub behind_one : (deed : Deed) (one : Stmt) (others : List Stated) (locals : List (List ℕ)) → (of_statement deed one).done locals ≡ false
+    → in_order (of_statement deed one ∷ others) locals ≡ in_order others (locals ++ (of_statement_kind deed one.kind).declares)
+behind_one deed one others locals off =
+    ap (λ (b : Bool). b || in_order others (locals ++ (of_statement deed one).declares)) off
+    ∙ ap (λ (it : Stated). in_order others (locals ++ it.declares)) (statement_law deed one)

@@ -1,5 +1,5 @@
 -- Marks that spread find exactly what methods do.
-use Rattle.std.proofs.Common.{◌≡◌, ◌⊎◌, ◌↔◌, IsTrue, inl, inr, ℕ, zero, suc, ◌+◌, ◌<◌, ◌≤◌, List, [], ◌∷◌, length, map, slice_get, slice_set, Bool, true, false, Some, None, Option, refl, sym, ap, subst, ◌∙◌, arith}
+use Rattle.std.proofs.Common.{◌≡◌, ◌⊎◌, ◌↔◌, IsTrue, inl, inr, ℕ, zero, suc, ◌+◌, ◌<◌, ◌≤◌, List, [], ◌∷◌, length, map, slice_get, slice_set, Bool, true, false, Some, None, Option, if◌then◌else◌, refl, sym, ap, subst, ◌∙◌, arith}
 use Rattle.std.specs.List.{Contains, list_any}
 use Rattle.std.proofs.lemmas.Option.{slice_get_within, get_or_from_slice_get, slice_get-get_or}
 use Rattle.cs_ast.specs.declared.member.Member.{Member}
@@ -114,7 +114,7 @@ spread_before runs m Waiting h = h
 spread_before runs m Spread h = refl
 
 -- those that run the method of a name are marked
-Covered : List ℕ → List Member → List Mark → Type 0
+abbrev pub Covered : List ℕ → List Member → List Mark → Type 0
 Covered name ms marks = (m : Member) (mark : Mark) → Stands m mark ms marks → does_itself (Runs name) m.kind ≡ true → is_marked mark ≡ true
 
 pub record Spreading (members : List Member) (deed : Deed) (marks : List Mark) : Type 0 where
@@ -135,7 +135,7 @@ stands_at zero m mark (x ∷ xs) (y ∷ ys) a b =
 stands_at (suc at) m mark (x ∷ xs) (y ∷ ys) a b = inr (stands_at at m mark xs ys a b)
 
 module _ (members : List Member) (deed : Deed) (marks : List Mark) (at : ℕ) (so_far : Spreading members deed marks) (waits : slice_get marks at ≡ Some Waiting) where
-  after : List Mark
+  abbrev after : List Mark
   after = slice_set marks at Spread
 
   sound_after : (m : Member) (mark : Mark) → Stands m mark members after → is_marked mark ≡ true → Does members deed m.kind
@@ -311,7 +311,7 @@ lighter members marks at is = omega (arith, weights_set marks at is, weights_by 
 -- the effects
 
 module _ (members : List Member) where
-  Exact : Deed → List Member → List Mark → Type 0
+  abbrev Exact : Deed → List Member → List Mark → Type 0
   Exact deed ms marks = (m : Member) (mark : Mark) → Stands m mark ms marks → IsTrue (is_marked mark) ↔ Does members deed m.kind
 
   told_one : (x : Member) (xs : List Member) (change invoke : Mark) (rest : List Effect) (o : Option (List ℕ)) → method_name x.kind ≡ o

@@ -185,13 +185,21 @@ fn any_part(deed: &Deed, locals: &[Txt], all: &[TextPart]) -> bool
     false
 }
 
+/// A part behind `with`.
 #[cycle(expressions)]
 #[tactic(auto, using(crate::proofs::DeedLaws::with_law))]
+fn with_part(deed: &Deed, locals: &[Txt], it: &WithPart) -> bool
+    ensures { result ≡ spec.of_with deed.now it.now locals.now }
+{
+    does(deed, locals, &it.value)
+}
+
+#[cycle(expressions)]
 fn any_with(deed: &Deed, locals: &[Txt], all: &[WithPart]) -> bool
     ensures { result ≡ list_any (λ x. x locals.now) (map (spec.of_with deed.now) all.now) }
 {
     for one in all {
-        if does(deed, locals, &one.value) {
+        if with_part(deed, locals, one) {
             return true;
         }
     }

@@ -16,3 +16,6 @@ mod statements;
 
 pub use deed::Deed;
 pub use methods::effects;
+
+#[cfg(test)]
+mod tests;

@@ -53,5 +53,6 @@ pub fn effects(alloc: Global, members: &[Member]) -> Result<Vec<Effect>, Oom>
     let changing = Deed::Changes(fields(alloc, members)?);
     let changes = doers(alloc, &changing, members)?;
     let invokes = doers(alloc, &Deed::Invokes, members)?;
-    listed(alloc, members, changes.as_slice(), invokes.as_slice())
+    let told = listed(alloc, members, changes.as_slice(), invokes.as_slice())?;
+    Ok(told)
 }

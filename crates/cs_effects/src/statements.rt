@@ -90,7 +90,7 @@ fn form(alloc: Global, deed: &Deed, locals: &[Txt], kind: &StmtKind) -> Result<b
 
 /// Statements one after another, each behind the locals of those before it.
 #[cycle(statements)]
-#[tactic(auto, using(crate::proofs::DeedLaws::statement_law))]
+#[tactic(auto, using(crate::proofs::DeedLaws::behind_one))]
 pub fn in_order(alloc: Global, deed: &Deed, locals: &[Txt], body: &[Stmt]) -> Result<bool, Oom>
     ensures { IfOk result (λ yes. yes ≡ spec.in_order (map (spec.of_statement deed.now) body.now) locals.now) }
 {
