@@ -16,6 +16,3 @@ mod statements;
 
 pub use deed::Deed;
 pub use methods::effects;
-
-#[cfg(test)]
-mod tests;

@@ -1,9 +1,9 @@
 // Rules at small bodies: which is told at which column, and what comes of code that breaks none.
-use crate::{CheckFault, ExprType, Rule, check_body, check_expr};
 use cs_ast::{
     AssignOp, BinaryOp, Code, CsType, Expr, ExprKind, Ident, NameKind, Named, Scope, Stmt, StmtKind,
     TypeExpr, TypeKind,
 };
+use cs_check::{CheckFault, ExprType, Rule, check_body, check_expr};
 use sqlite_items::{Boxed, Items};
 use std::alloc::Global;
 use std::test::Fail;

@@ -1,8 +1,8 @@
 // The effects of a few methods that run each other.
-use crate::effects;
 use cs_ast::{
     Argument, AssignOp, Body, Expr, ExprKind, Ident, Member, MemberKind, TypeExpr, TypeKind,
 };
+use cs_effects::effects;
 use sqlite_items::{Boxed, Items};
 use std::alloc::Global;
 use std::test::Fail;
