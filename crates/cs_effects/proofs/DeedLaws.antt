@@ -30,7 +30,6 @@ use Rattle.cs_effects.specs.declared.deed.Deed.{Deed}
 use Rattle.cs_effects.specs.Deeds.{Done, Asked, Stated, if_there, in_order, behind, is_free, by_change, by_use, by_invoking, done_in, invoked, asked, part_done, done_by, declared, stated, body_done, of_body, of_kind, of_statement_kind, of_part, of_expr, of_section, of_statement, of_with}
 
 module _ (deed : Deed) where
-
   pub expr_law : (a : Expr) → of_expr deed a ≡ of_kind deed a.kind
   unfolding of_body of_kind of_statement_kind of_part of_expr of_section of_statement of_with
   expr_law a = fold_out-Expr Done Asked Stated Done Asked Done Stated Done (body_done deed) (asked deed) (stated deed) (part_done deed) (λ it. it.kind) (λ it. in_order it.body) (λ it. it.kind) (λ it. it.value.done) a

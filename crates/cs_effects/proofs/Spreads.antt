@@ -59,9 +59,9 @@ set_stands m mark (x ∷ xs) (y ∷ ys) zero waits (inl h) =
 set_stands m mark (x ∷ xs) (y ∷ ys) zero waits (inr h) = inl (inr h)
 set_stands m mark (x ∷ xs) (y ∷ ys) (suc at) waits (inl h) = inl (inl h)
 set_stands m mark (x ∷ xs) (y ∷ ys) (suc at) waits (inr h) = elim (set_stands m mark xs ys at waits h) [
-    | inl old ↦ inl (inr old)
-    | inr new ↦ inr (record { is = new.is; before = inr new.before; there = new.there })
-  ]
+  | inl old ↦ inl (inr old)
+  | inr new ↦ inr (record { is = new.is; before = inr new.before; there = new.there })
+]
 
 -- a member stands somewhere
 
@@ -140,28 +140,28 @@ module _ (members : List Member) (deed : Deed) (marks : List Mark) (at : ℕ) (s
 
   sound_after : (m : Member) (mark : Mark) → Stands m mark members after → is_marked mark ≡ true → Does members deed m.kind
   sound_after m mark h is = elim (set_stands m mark members marks at waits h) [
-      | inl old ↦ so_far.sound m mark old is
-      | inr new ↦ so_far.sound m Waiting new.before refl
-    ]
+    | inl old ↦ so_far.sound m mark old is
+    | inr new ↦ so_far.sound m Waiting new.before refl
+  ]
 
   seeded_after : (m : Member) (mark : Mark) → Stands m mark members after → does_itself deed m.kind ≡ true → is_marked mark ≡ true
   seeded_after m mark h does = elim (set_stands m mark members marks at waits h) [
-      | inl old ↦ so_far.seeded m mark old does
-      | inr new ↦ ap is_marked new.is
-    ]
+    | inl old ↦ so_far.seeded m mark old does
+    | inr new ↦ ap is_marked new.is
+  ]
 
   covered_after : (name : List ℕ) → Covered name members marks → Covered name members after
   covered_after name all m mark h runs = elim (set_stands m mark members marks at waits h) [
-      | inl old ↦ all m mark old runs
-      | inr new ↦ ap is_marked new.is
-    ]
+    | inl old ↦ all m mark old runs
+    | inr new ↦ ap is_marked new.is
+  ]
 
   -- what is spread now was so before, or is the one that waited
   spread_after : (n : Member) → Stands n Spread members after → Stands n Spread members marks ⊎ (slice_get members at ≡ Some n)
   spread_after n h = elim (set_stands n Spread members marks at waits h) [
-      | inl old ↦ inl old
-      | inr new ↦ inr new.there
-    ]
+    | inl old ↦ inl old
+    | inr new ↦ inr new.there
+  ]
 
   quiet : name_of (slice_get members at) ≡ None → Spreading members deed after
   quiet none = record {
@@ -203,19 +203,19 @@ module _ (members : List Member) (deed : Deed) (marks : List Mark) (at : ℕ) (s
       aligned = aligned_touch (Runs name) members after (aligned_set members marks at Spread so_far.aligned);
       sound = sound_touched;
       seeded = λ m mark h itself_does.
-        let it = touch_stands (Runs name) m mark members after h in
-        ap is_marked it.is ∙ marked_touched (Runs name) m it.before (seeded_after m it.before it.stands itself_does);
+          let it = touch_stands (Runs name) m mark members after h in
+          ap is_marked it.is ∙ marked_touched (Runs name) m it.before (seeded_after m it.before it.stands itself_does);
       closed = λ one h other known.
-        let it = touch_stands (Runs name) one Spread members after h in
-        let was : Stands one Spread members after =
-        subst (λ z. Stands one z members after) (spread_before (Runs name) one it.before (sym it.is)) it.stands in
-        elim (spread_after one was) [
-          | inl old ↦ covered_touched other (covered_after other (so_far.closed one old other known))
-          | inr here ↦
-              let e : method_name one.kind ≡ method_name n.kind = sym (ap name_of here) ∙ ap name_of there in
-              let same : name ≡ other = cc in
-              subst (λ z. Covered z members (touch (Runs name) members after)) same covered_name
-        ];
+          let it = touch_stands (Runs name) one Spread members after h in
+          let was : Stands one Spread members after =
+          subst (λ z. Stands one z members after) (spread_before (Runs name) one it.before (sym it.is)) it.stands in
+          elim (spread_after one was) [
+            | inl old ↦ covered_touched other (covered_after other (so_far.closed one old other known))
+            | inr here ↦
+                let e : method_name one.kind ≡ method_name n.kind = sym (ap name_of here) ∙ ap name_of there in
+                let same : name ≡ other = cc in
+                subst (λ z. Covered z members (touch (Runs name) members after)) same covered_name
+          ];
     }
 
   turn_at : (found : Option Member) → slice_get members at ≡ found → (o : Option (List ℕ)) → name_of found ≡ o → Spreading members deed (spread_by o members after)
@@ -315,14 +315,14 @@ module _ (members : List Member) where
   Exact deed ms marks = (m : Member) (mark : Mark) → Stands m mark ms marks → IsTrue (is_marked mark) ↔ Does members deed m.kind
 
   told_one : (x : Member) (xs : List Member) (change invoke : Mark) (rest : List Effect) (o : Option (List ℕ)) → method_name x.kind ≡ o
-    → IsTrue (is_marked change) ↔ Does members (Changes (fields members)) x.kind → IsTrue (is_marked invoke) ↔ Does members Invokes x.kind
-    → Told members xs rest → Told members (x ∷ xs) (with_effect o change invoke rest)
+      → IsTrue (is_marked change) ↔ Does members (Changes (fields members)) x.kind → IsTrue (is_marked invoke) ↔ Does members Invokes x.kind
+      → Told members xs rest → Told members (x ∷ xs) (with_effect o change invoke rest)
   told_one x xs change invoke rest None is a b h = told_other x xs rest is h
   told_one x xs change invoke rest (Some name) is a b h =
       told_method x xs (record { method = name; changes = is_marked change; invokes = is_marked invoke }) rest is a b h
 
   told_all : (ms : List Member) (changes invokes : List Mark) → Aligned ms changes → Aligned ms invokes
-    → Exact (Changes (fields members)) ms changes → Exact Invokes ms invokes → Told members ms (listed ms changes invokes)
+      → Exact (Changes (fields members)) ms changes → Exact Invokes ms invokes → Told members ms (listed ms changes invokes)
   told_all [] changes invokes a b c d = told_end
   told_all (x ∷ xs) [] invokes a b c d = absurd a
   told_all (x ∷ xs) (y ∷ ys) [] a b c d = absurd b

@@ -39,14 +39,14 @@ does_itself deed _ = false
 pub data Does (members : List Member) (deed : Deed) : MemberKind → Type 0 where
   itself : (m : MemberKind) → does_itself deed m ≡ true → Does members deed m
   through : (m : MemberKind) (n : Member) (name : List ℕ) → Contains members n → method_name n.kind ≡ Some name →
-    does_itself (Runs name) m ≡ true → Does members deed n.kind → Does members deed m
+      does_itself (Runs name) m ≡ true → Does members deed n.kind → Does members deed m
 
 -- the effects of the methods among members, in their order
 pub data Told (members : List Member) : List Member → List Effect → Type 0 where
   end : Told members [] []
   other : (m : Member) (others : List Member) (effects : List Effect) → method_name m.kind ≡ None →
-    Told members others effects → Told members (m ∷ others) effects
+      Told members others effects → Told members (m ∷ others) effects
   method : (m : Member) (others : List Member) (effect : Effect) (effects : List Effect) → method_name m.kind ≡ Some effect.method →
-    IsTrue effect.changes ↔ Does members (Changes (fields members)) m.kind →
-    IsTrue effect.invokes ↔ Does members Invokes m.kind →
-    Told members others effects → Told members (m ∷ others) (effect ∷ effects)
+      IsTrue effect.changes ↔ Does members (Changes (fields members)) m.kind →
+      IsTrue effect.invokes ↔ Does members Invokes m.kind →
+      Told members others effects → Told members (m ∷ others) (effect ∷ effects)

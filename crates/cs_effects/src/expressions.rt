@@ -122,9 +122,7 @@ fn form(deed: &Deed, locals: &[Txt], kind: &ExprKind) -> bool
         ExprKind::Name(name) => is_used(deed, locals, name),
         ExprKind::Unary(_, a) => does(deed, locals, a.get()),
         ExprKind::Cast(_, a) => does(deed, locals, a.get()),
-        ExprKind::Binary(_, a, b) => {
-            does(deed, locals, a.get()) || does(deed, locals, b.get())
-        }
+        ExprKind::Binary(_, a, b) => { does(deed, locals, a.get()) || does(deed, locals, b.get()) }
         ExprKind::Conditional(test, a, b) => {
             does(deed, locals, test.get())
                 || (does(deed, locals, a.get()) || does(deed, locals, b.get()))
@@ -136,8 +134,7 @@ fn form(deed: &Deed, locals: &[Txt], kind: &ExprKind) -> bool
         ExprKind::NullMember(a, _) => does(deed, locals, a.get()),
         ExprKind::Call(target, arguments) => {
             invokes(deed, &target.get().kind)
-                || (does(deed, locals, target.get())
-                    || any_of(deed, locals, arguments.as_slice()))
+                || (does(deed, locals, target.get()) || any_of(deed, locals, arguments.as_slice()))
         }
         ExprKind::Index(a, b) => does(deed, locals, a.get()) || does(deed, locals, b.get()),
         ExprKind::New(_, arguments) => any_of(deed, locals, arguments.as_slice()),

@@ -33,7 +33,9 @@ pub fn does_itself(alloc: Global, deed: &Deed, kind: &MemberKind) -> Result<bool
 {
     match kind {
         MemberKind::Method {
-            arguments, body, ..
+            arguments,
+            body,
+            ..
         } => {
             let locals = argument_names(alloc, arguments.as_slice())?;
             body_does(alloc, deed, locals.as_slice(), body)

@@ -43,12 +43,7 @@ fn touched(alloc: Global, runs: &Deed, member: &Member, mark: Mark) -> Result<Ma
 }
 
 /// Marks those that run a method.
-fn touch(
-    alloc: Global,
-    runs: &Deed,
-    members: &[Member],
-    marks: &[Mark],
-) -> Result<Items<Mark>, Oom>
+fn touch(alloc: Global, runs: &Deed, members: &[Member], marks: &[Mark]) -> Result<Items<Mark>, Oom>
     ensures { IfOk result (λ new. new ≡ spec.touch runs.now members.now marks.now) }
 {
     let mut new = Items::new(alloc);

@@ -43,12 +43,7 @@ fn assignment(alloc: Global) -> Result<Expr, Oom> {
 }
 
 /// `void name(int argument) => value;`, or without an argument.
-fn method(
-    alloc: Global,
-    name: &str,
-    argument: Option<&str>,
-    value: Expr,
-) -> Result<Member, Oom> {
+fn method(alloc: Global, name: &str, argument: Option<&str>, value: Expr) -> Result<Member, Oom> {
     let mut arguments = Items::new(alloc);
     if let Some(argument) = argument {
         arguments.push(Argument {
