@@ -22,7 +22,7 @@ use Rattle.cs_rules.specs.declared.checked.ExprType.TheVariants.{Of, Null, Marku
 use Rattle.cs_rules.specs.declared.rule.Rule.TheVariants.{UnknownName}
 use Rattle.cs_rules.specs.Judged.{Judged, fine, breaks, mismatch, known, each, ◌>>=◌}
 use Rattle.cs_rules.specs.Types.{fits, wants, fitting, checked, common_type, drops_argument, fits_type, may_be_null}
-use Rattle.cs_rules.specs.Names.{meant, variable_of}
+use Rattle.cs_rules.specs.Names.{meant, variable_of, meant_by}
 use Rattle.cs_rules.specs.Written.{Declared, record_named, is_comparable}
 use Rattle.cs_rules.specs.Library.{part_from}
 use Rattle.cs_rules.specs.Operators.{binary_type, operator_of, are_compared, comparison_type, either_type, given_type, is_nullable, is_shown, is_text, may_compare, plain_type, shown, sum_type, taken_type}
@@ -49,10 +49,11 @@ pub data AllGiven : List Given → Type 0 where
 data AllReplaced (at : Surroundings) (locals : List CsType) (parts : List CsType) : Replaced → Type 0 where
   none_replaced : AllReplaced at locals parts (record { positions = []; wanted = []; values = [] })
   one_replaced : (one : Replacing) (more : Replaced) → slice_get parts one.number ≡ Some one.wanted → ValueFits at locals one.value → AllReplaced at locals parts more
-    → AllReplaced at locals parts (record { positions = one.number ∷ more.positions; wanted = one.wanted ∷ more.wanted; values = one.value ∷ more.values })
+      → AllReplaced at locals parts (record { positions = one.number ∷ more.positions; wanted = one.wanted ∷ more.wanted; values = one.value ∷ more.values })
 
 -- a record type with its declaration
 record_form : (records : List Member) (type : CsType) (found : Declared) → Form type → record_of records (Of type) ≡ Some found → (name : List ℕ) × (type ≡ t.Rec name) × (record_named records name ≡ Some found)
+unfolding record_of
 record_form records type found (shape.record_of name) e = (name, refl, e)
 record_form records type found int e = absurd (cc)
 record_form records type found bool e = absurd (cc)
@@ -65,12 +66,13 @@ record_form records type found args e = absurd (cc)
 record_form records type found nothing e = absurd (cc)
 
 record_found : (records : List Member) (given : ExprType) (found : Declared) → record_of records given ≡ Some found → (name : List ℕ) × (given ≡ Of (t.Rec name)) × (record_named records name ≡ Some found)
+unfolding record_of
 record_found records (Of type) found e = let k = record_form records type found (form type) e in (k.0, ap (λ z. Of z) k.1, k.2)
 record_found records Null found e = absurd (cc)
 record_found records Markup found e = absurd (cc)
 
 module _ (at : Surroundings) (locals : List CsType) (s : Scope) (fit : ScopeFits at locals s) where
-  Placed : Declared → Replacing → Type 0
+  abbrev Placed : Declared → Replacing → Type 0
   Placed found one = (slice_get (record_type found).parts one.number ≡ Some one.wanted) × ValueFits at locals one.value
 
   one_part : (found : Declared) (given : Given) → ValueSound given.value → IfFine (Placed found) (replacing s found given)
@@ -92,7 +94,7 @@ module _ (at : Surroundings) (locals : List CsType) (s : Scope) (fit : ScopeFits
       (λ ys hys. one_replaced y ys hy.0 hy.1 hys))
 
   -- the code of new values
-  coded : List Checked → List Code
+  abbrev coded : List Checked → List Code
   coded = map (λ (y : Checked). y.code)
 
   all_replaced : (parts : List CsType) (all : Replaced) → AllReplaced at locals parts all → IfFine (λ u. ReplacementsHave at locals parts all.positions (coded all.values)) (all_fit all.wanted all.values)
@@ -215,7 +217,7 @@ module _ (at : Surroundings) (locals : List CsType) (records : List Member) wher
       (λ given j. then_fine (λ u. fits given type ≡ true) (λ a. Assigns o type a) (wants type x.place given) (λ u. fine x.code) (wants_fine type x.place given) (λ u f. joined_assigns o by target type x given e j f))
 
 pub assign_sound : (o : AssignOp) (target : Ident) (a : Value) (place : Place) → ValueSound a → ValueSound (assign o target a place)
-unfolding assign are_compared assigned binary_type common_type comparison_type drops_argument either_type fits fits_type fitting given_type is_comparable is_nullable is_shown is_text may_be_null may_compare meant operator_of plain_type shown sum_type taken_type variable_of wants
+unfolding assign are_compared assigned binary_type common_type comparison_type drops_argument either_type fits fits_type fitting given_type is_comparable is_nullable is_shown is_text may_be_null may_compare meant operator_of plain_type shown sum_type taken_type variable_of wants meant_by
 assign_sound o target a place h at locals s fit =
     then_fine (λ one. meant s.names target.name ≡ Some one) (λ x. ValueFits at locals x) (known UnknownName target.place (meant s.names target.name))
     (λ one. a s >>= λ x. (variable_of target.place one.kind one.place >>= λ variable. (assigned s.records (operator_of o) target.place one.cs_type x >>= λ z. fine (checked place (c.Assign variable o z) t.Nothing)))) (known_fine UnknownName target.place (meant s.names target.name))
@@ -225,7 +227,7 @@ assign_sound o target a place h at locals s fit =
     (λ z k. code.assign variable o one.cs_type k.value z v k.takes k.has_value))))
 
 pub step_sound : (o : StepOp) (target : Ident) (place : Place) → ValueSound (step o target place)
-unfolding step drops_argument fits fits_type may_be_null meant variable_of wants
+unfolding step drops_argument fits fits_type may_be_null meant variable_of wants meant_by
 step_sound o target place at locals s fit =
     then_fine (λ one. meant s.names target.name ≡ Some one) (λ x. ValueFits at locals x) (known UnknownName target.place (meant s.names target.name))
     (λ one. variable_of target.place one.kind one.place >>= λ variable. (wants t.Int target.place (Of one.cs_type) >>= λ u. fine (checked place (c.Step variable o) t.Nothing))) (known_fine UnknownName target.place (meant s.names target.name))

@@ -25,7 +25,7 @@ use Rattle.cs_rules.specs.declared.checked.ExprType.TheVariants.{Of, Null, Marku
 use Rattle.cs_rules.specs.declared.rule.Rule.TheVariants.{UnknownName, UnknownType, TypeMismatch}
 use Rattle.cs_rules.specs.Judged.{Judged, fine, breaks, mismatch, known, each, ◌>>=◌}
 use Rattle.cs_rules.specs.Types.{fits, common_type, wants, fitting, checked, drops_argument, fits_type, has_values, may_be_null, own_type}
-use Rattle.cs_rules.specs.Names.{meant, value_of_name}
+use Rattle.cs_rules.specs.Names.{meant, value_of_name, meant_by}
 use Rattle.cs_rules.specs.Written.{type_of, written, record_named, is_comparable}
 use Rattle.cs_rules.specs.Library.{value_of_member, null_member, callee_of_member, code_of_call, behind, callee_of_value}
 use Rattle.cs_rules.specs.Operators.{unary_type, cast_type, is_shown, shown, is_value, binary_type, are_compared, comparison_type, either_type, given_type, is_nullable, is_text, may_compare, plain_type, sum_type, taken_type}
@@ -212,13 +212,13 @@ member_called_sound a name place h at locals s fit =
 
 -- names
 pub name_sound : (name : List ℕ) (place : Place) → ValueSound (name_read name place)
-unfolding name_read meant value_of_name
+unfolding name_read meant value_of_name meant_by
 name_sound name place at locals s fit =
     then_fine (λ one. meant s.names name ≡ Some one) (λ x. ValueFits at locals x) (known UnknownName place (meant s.names name)) (λ one. value_of_name place one) (known_fine UnknownName place (meant s.names name))
     (λ one e. named_value at locals place one.kind one.place one.cs_type (fit.names name one e))
 
 pub name_called_sound : (name : List ℕ) (place : Place) → CalleeSound (name_called name place)
-unfolding name_called callee_by_kind callee_of_value meant value_of_name
+unfolding name_called callee_by_kind callee_of_value meant value_of_name meant_by
 name_called_sound name place at locals s fit =
     then_fine (λ one. meant s.names name ≡ Some one) (λ it. CalleeFits at locals it) (known UnknownName place (meant s.names name)) (λ one. callee_by_kind place one one.kind) (known_fine UnknownName place (meant s.names name))
     (λ one e. named_callee at locals place one one.kind refl (fit.names name one e))

@@ -60,13 +60,13 @@ module _ (at : Surroundings) (locals : List CsType) where
 
   -- a value as what is called
   fragment_called : (place : Place) (a : Code) (type : CsType) (x : CsType-F CsType) → out-CsType type ≡ x → CodeHas at locals type a → IfFine (λ it. CalleeFits at locals it) (fragment_level place a x)
+  unfolding code_of_call
   fragment_called place a type (CsType-F.Fragment (Some argument)) e h = filled
     where
       fragment : CodeHas at locals (t.Fragment (Some argument)) a
       fragment = subst (λ z. CodeHas at locals z a) (sym (roll-out-CsType type) ∙ ap roll-CsType e ∙ t.rolls-Fragment (Some argument)) h
 
       filled : (arguments : List Code) → CodesHave at locals (argument ∷ []) arguments → CodeHas at locals (t.Fragment None) (code_of_call (called.Fill a) arguments)
-      unfolding code_of_call
       filled arguments (code.more _ _ b _ g code.none) = code.fill argument a b fragment g
   fragment_called place a type (CsType-F.Fragment None) e h = tt
   fragment_called place a type _ e h = tt
@@ -82,15 +82,13 @@ module _ (at : Surroundings) (locals : List CsType) where
 
   -- a name as what is called
   pub named_callee : (place : Place) (one : Named) (kind : NameKind) → one.kind ≡ kind → NameFits at locals one.cs_type one.place one.kind → IfFine (λ it. CalleeFits at locals it) (callee_by_kind place one kind)
-  unfolding callee_by_kind callee_of_value value_of_name
+  unfolding callee_by_kind callee_of_value value_of_name code_of_call
   named_callee place one kind e h = by kind (subst (λ k. NameFits at locals one.cs_type one.place k) e h)
     where
       as_value : IfFine (λ it. CalleeFits at locals it) (value_of_name place one >>= callee_of_value)
-      unfolding callee_of_value value_of_name
       as_value = then_fine (λ x. ValueFits at locals x) (λ it. CalleeFits at locals it) (value_of_name place one) callee_of_value (named_value place one.kind one.place one.cs_type h) (λ x k. value_called x k)
 
       by : (kind : NameKind) → NameFits at locals one.cs_type one.place kind → IfFine (λ it. CalleeFits at locals it) (callee_by_kind place one kind)
-      unfolding callee_by_kind callee_of_value value_of_name
       by kind (scope.method takes m) = λ arguments hs. subst (λ z. CodeHas at locals z (c.Call one.place arguments)) m.gives_it (code.call one.place m.body takes arguments m.numbered m.own m.takes_them hs)
       by kind (scope.field _) = as_value
       by kind (scope.parameter _) = as_value
@@ -204,13 +202,12 @@ module _ (at : Surroundings) (locals : List CsType) (s : Scope) (fit : ScopeFits
   invoke_called a type takes h f arguments hs = by f.argument (subst (λ z. CodeHas at locals z a) f.is h) arguments (subst (λ z. CodesHave at locals z arguments) f.takes_it hs)
     where
       by : (argument : Option CsType) → CodeHas at locals (t.Callback argument) a → (arguments : List Code) → CodesHave at locals (argument_types argument) arguments → CodeHas at locals t.Nothing (code_of_call (called.Invoke a) arguments)
-      unfolding code_of_call
       by None g arguments code.none = code.invoke a g
       by (Some argument) g arguments (code.more _ _ b _ k code.none) = code.invoke_with argument a b g k
 
   -- a member as what is called
   pub member_callee : (place : Place) (a : Code) (type : CsType) (found : Dotted) → CodeHas at locals type a → DottedFits at type found → IfFine (λ it. CalleeFits at locals it) (callee_of_member place a found)
-  unfolding behind callee_of_member callee_of_value dotted has_values own_type value_of_member
+  unfolding behind callee_of_member callee_of_value dotted has_values own_type value_of_member code_of_call
   member_callee place a type (dot.Method member takes gives) h f = λ arguments hs. code.library member (type ∷ takes) gives (a ∷ arguments) f (code.more type takes a arguments h hs)
   member_callee place a type (dot.Invoke takes) h f = λ arguments hs. invoke_called a type takes h f arguments hs
   member_callee place a type (dot.Part number part) h f = then_fine (λ x. ValueFits at locals x) (λ it. CalleeFits at locals it) (value_of_member place a (dot.Part number part)) callee_of_value (member_value place a type (dot.Part number part) h f) (λ x k. value_called at locals x k)
@@ -222,14 +219,12 @@ module _ (at : Surroundings) (locals : List CsType) (s : Scope) (fit : ScopeFits
   static_fine place static.Int name = by (bytes_eq name.name (codes "MaxValue")) (bytes_eq name.name (codes "MinValue"))
     where
       by : (a b : Bool) → IfFine (λ x. ValueFits at locals x) (found_static name (if a then Some (fine (checked place (c.Int (pos 2147483647)) t.Int)) else (if b then Some (fine (checked place (c.Int (negsuc 2147483647)) t.Int)) else None)))
-      unfolding found_static
       by true b = code.int (pos 2147483647)
       by false true = code.int (negsuc 2147483647)
       by false false = tt
   static_fine place static.Text name = by (bytes_eq name.name (codes "Empty")) (bytes_eq name.name (codes "IsNullOrEmpty"))
     where
       by : (a b : Bool) → IfFine (λ x. ValueFits at locals x) (found_static name (if a then Some (fine (checked place (c.Text []) t.Text)) else (if b then Some (mismatch place) else None)))
-      unfolding found_static
       by true b = code.text []
       by false true = tt
       by false false = tt
@@ -239,7 +234,7 @@ module _ (at : Surroundings) (locals : List CsType) (s : Scope) (fit : ScopeFits
   static_as_value place of name = then_fine (λ x. ValueFits at locals x) (λ it. CalleeFits at locals it) (found_static name (static_value place of name.name)) callee_of_value (static_fine place of name) (λ x k. value_called at locals x k)
 
   pub static_called : (place : Place) (of : StaticType) (name : Ident) → IfFine (λ it. CalleeFits at locals it) (static_callee place of name)
-  unfolding callee_of_value found_static static_callee static_value
+  unfolding callee_of_value found_static static_callee static_value code_of_call
   static_called place static.Int name = static_as_value place static.Int name
   static_called place static.Text name = either_fine (λ it. CalleeFits at locals it) (bytes_eq name.name (codes "IsNullOrEmpty")) (fine (record { called = called.Library library.IsNullOrEmpty None; takes = t.Text ∷ []; gives = t.Bool })) (found_static name (static_value place static.Text name.name) >>= callee_of_value)
       (λ e arguments hs. code.library library.IsNullOrEmpty (t.Text ∷ []) t.Bool arguments op.is_null_or_empty hs) (λ e. static_as_value place static.Text name)

@@ -136,7 +136,6 @@ module _ (H K : CsType → Type 0) where
   joined_fine records o by p q a b e h k = go o by e
     where
       go : (o : AssignOp) (by : BinaryOp) → operator_of o ≡ Some by → IfFine (Joined H K a by) (binary_type records by p a q b)
-      unfolding are_compared binary_type common_type comparison_type drops_argument either_type fits_type given_type is_comparable is_nullable is_shown is_text may_be_null may_compare operator_of plain_type shown sum_type taken_type
       go assign.Set by e = absurd (cc)
       go assign.Add by e = let same : binary.Add ≡ by = cc in subst (λ z. IfFine (Joined H K a z) (binary_type records z p a q b)) same (sum_fine p q a b h k)
       go assign.Subtract by e = let same : binary.Subtract ≡ by = cc in subst (λ z. IfFine (Joined H K a z) (binary_type records z p a q b)) same (arithmetic_fine binary.Subtract p q a b op.subtract h k)

@@ -60,8 +60,9 @@ for_leaves (Some s) (Some d) None body = leaves_at (sk.For (Some s) (Some d) Non
 for_leaves (Some s) (Some d) (Some e) body = leaves_at (sk.For (Some s) (Some d) (Some e) body) (StmtKind-F.For (Some s) (Some d) (Some e) body) (sk.rolls-For (Some s) (Some d) (Some e) body)
 
 mutual
-  statement_stands : (j : Jumps) (f : Bool) (ts rest : List Token) (a : Stmt) → Statement j f ts rest a → Stand j (leaves a).breaks (leaves a).continues
   unfolding condition drops_argument fits fits_type fitting may_be_null
+
+  statement_stands : (j : Jumps) (f : Bool) (ts rest : List Token) (a : Stmt) → Statement j f ts rest a → Stand j (leaves a).breaks (leaves a).continues
   statement_stands j f ts rest a (g.simple _ _ p c _ _ kind s _) = form_leaves p kind plain j (simple_leaves p ts (c ∷ rest) kind s) (none_stand j)
   statement_stands j f ts rest a (g.empty _ _ c _ _) = form_leaves c.place sk.Empty plain j (leaves_at sk.Empty StmtKind-F.Empty sk.rolls-Empty) (none_stand j)
   statement_stands j f ts rest a (g.block _ _ o c us _ body _ hs _) =

@@ -176,21 +176,18 @@ unfolding while_loop condition drops_argument fits fits_type fitting may_be_null
 while_sound forever test l body is h g j at locals s allows fit = by forever is l.breaks refl
   where
     ending : IfFine (λ d. DoneFits at locals s j true d) (condition test s >>= λ code. (alone body s >>= λ turn. fine (done s (c.While code turn))))
-    unfolding condition drops_argument fits fits_type fitting may_be_null
     ending =
         then_fine (λ code. CodeHas at locals t.Bool code) (λ d. DoneFits at locals s j true d) (condition test s) (λ code. (alone body s >>= λ turn. fine (done s (c.While code turn)))) (condition_fine test at locals s h fit)
         (λ code k. then_fine (λ turn. CodeFits at s.result locals (jumps true true) l.ends turn) (λ d. DoneFits at locals s j true d) (alone body s) (λ turn. fine (done s (c.While code turn))) (alone_fine l body (jumps true true) at locals s g (in_loop l.breaks l.continues) fit)
         (λ turn m. stays at locals s j true (c.While code turn) fit (run.while j locals m.inner l.ends code turn k m.runs)))
 
     endless : IsAlways test → l.breaks ≡ false → IfFine (λ d. DoneFits at locals s j false d) (condition test s >>= λ code. (alone body s >>= λ turn. fine (done s (c.While code turn))))
-    unfolding condition drops_argument fits fits_type fitting may_be_null
     endless a n =
         then_fine (λ code. code ≡ c.Bool true) (λ d. DoneFits at locals s j false d) (condition test s) (λ code. (alone body s >>= λ turn. fine (done s (c.While code turn)))) (always_condition test s a)
         (λ code k. then_fine (λ turn. CodeFits at s.result locals (jumps false true) l.ends turn) (λ d. DoneFits at locals s j false d) (alone body s) (λ turn. fine (done s (c.While code turn))) (alone_fine l body (jumps false true) at locals s g (no_break l.breaks l.continues n) fit)
         (λ turn m. stays at locals s j false (c.While code turn) fit (subst (λ z. Runs at s.result j locals locals false (c.While z turn)) (sym k) (run.forever j locals m.inner l.ends turn m.runs))))
 
     by : (d : Bool) → (d ≡ true → IsAlways test) → (b : Bool) → l.breaks ≡ b → IfFine (λ x. DoneFits at locals s j (not d || b) x) (condition test s >>= λ code. (alone body s >>= λ turn. fine (done s (c.While code turn))))
-    unfolding condition drops_argument fits fits_type fitting may_be_null
     by false i b e = ending
     by true i true e = ending
     by true i false e = endless (i refl) e

@@ -143,20 +143,17 @@ unfolding common_type drops_argument fits_type may_be_null
 common_has at locals (Of a) (Of b) given e = by (fits_type a b) refl (fits_type b a) refl e
   where
     by : (d : Bool) → fits_type a b ≡ d → (d' : Bool) → fits_type b a ≡ d' → (if d then Some (Of b) else (if d' then Some (Of a) else None)) ≡ Some given → ((c : Code) → CodeHas at locals a c → HasType at locals given c) × ((c : Code) → CodeHas at locals b c → HasType at locals given c)
-    unfolding drops_argument fits_type may_be_null
     by true i d' i' m = let same : Of b ≡ given = cc in subst (λ z. ((c : Code) → CodeHas at locals a c → HasType at locals z c) × ((c : Code) → CodeHas at locals b c → HasType at locals z c)) same ((λ c h. fits_code at locals a b c i h), (λ c h. h))
     by false i true i' m = let same : Of a ≡ given = cc in subst (λ z. ((c : Code) → CodeHas at locals a c → HasType at locals z c) × ((c : Code) → CodeHas at locals b c → HasType at locals z c)) same ((λ c h. h), (λ c h. fits_code at locals b a c i' h))
     by false i false i' m = absurd (cc)
 common_has at locals (Of a) Null given e = by (may_be_null a) refl e
   where
     by : (d : Bool) → may_be_null a ≡ d → (if d then Some (Of a) else None) ≡ Some given → ((c : Code) → CodeHas at locals a c → HasType at locals given c) × ((c : Code) → ((type : CsType) → HasNull type → CodeHas at locals type c) → HasType at locals given c)
-    unfolding may_be_null
     by true i m = let same : Of a ≡ given = cc in subst (λ z. ((c : Code) → CodeHas at locals a c → HasType at locals z c) × ((c : Code) → ((type : CsType) → HasNull type → CodeHas at locals type c) → HasType at locals z c)) same ((λ c h. h), (λ c h. h a (null_has a i)))
     by false i m = absurd (cc)
 common_has at locals Null (Of b) given e = by (may_be_null b) refl e
   where
     by : (d : Bool) → may_be_null b ≡ d → (if d then Some (Of b) else None) ≡ Some given → ((c : Code) → ((type : CsType) → HasNull type → CodeHas at locals type c) → HasType at locals given c) × ((c : Code) → CodeHas at locals b c → HasType at locals given c)
-    unfolding may_be_null
     by true i m = let same : Of b ≡ given = cc in subst (λ z. ((c : Code) → ((type : CsType) → HasNull type → CodeHas at locals type c) → HasType at locals z c) × ((c : Code) → CodeHas at locals b c → HasType at locals z c)) same ((λ c h. h b (null_has b i)), (λ c h. h))
     by false i m = absurd (cc)
 common_has at locals Null Null given e =
