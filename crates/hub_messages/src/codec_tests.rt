@@ -2,7 +2,7 @@
 ghost use Rattle.std.specs.Prelude.{◌≤◌, length, IsTrue};
 ghost use Rattle.hub_messages.specs.Spelling.Messages.{up_bytes, down_bytes};
 
-use hub_messages::{
+use crate::{
     Bytes, CircuitFault, Down, HubFault, Outcome, Refusal, Up, decode_down, decode_up, encode_down,
     encode_up,
 };

@@ -1,7 +1,0 @@
-//! Tests of the messages in bytes.
-//!
-//! The crate has no function of its own and promises nothing. What the tests expect was written by hand.
-#![tactic(auto)]
-
-#[cfg(test)]
-mod codec;
