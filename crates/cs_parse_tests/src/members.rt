@@ -1,7 +1,7 @@
 // What texts are read as members, and which are not.
-use crate::tests::lexed;
-use crate::{ParseFault, members};
+use crate::expressions::lexed;
 use cs_ast::{Body, MemberKind};
+use cs_parse::{ParseFault, members};
 use std::alloc::Global;
 use std::test::Fail;
 use text_core::{Place, Txt};

@@ -1,6 +1,6 @@
 // What texts are read as statements, and why they are not.
-use crate::{ParseFault, statements};
 use cs_ast::{Label, LabelKind, Section, Stmt, StmtKind};
+use cs_parse::{ParseFault, statements};
 use cs_token::{LexFault, Token, tokens};
 use std::alloc::Global;
 use std::test::Fail;

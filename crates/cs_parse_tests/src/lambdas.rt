@@ -1,7 +1,7 @@
 // What texts are read as lambdas, and which are not.
-use crate::tests::{form, lexed};
-use crate::{ParseFault, expression};
+use crate::expressions::{form, lexed};
 use cs_ast::{Body, Expr, ExprKind};
+use cs_parse::{ParseFault, expression};
 use std::test::Fail;
 use text_core::Place;
 

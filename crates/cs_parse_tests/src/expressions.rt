@@ -1,6 +1,6 @@
 // What texts are read as, and why they are not.
-use crate::{ParseFault, expression};
 use cs_ast::{BinaryOp, Expr, ExprKind};
+use cs_parse::{ParseFault, expression};
 use cs_token::{LexFault, Token, tokens};
 use std::alloc::Global;
 use std::test::Fail;

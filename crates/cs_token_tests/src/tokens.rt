@@ -1,5 +1,5 @@
 // The tokens of short texts, and the first faults in them.
-use crate::{LexFault, Sign, Token, TokenKind, Word, tokens};
+use cs_token::{LexFault, Sign, Token, TokenKind, Word, tokens};
 use std::alloc::Global;
 use std::test::Fail;
 use text_core::{Oom, Place, Txt, show_i32};

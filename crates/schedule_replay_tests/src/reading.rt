@@ -1,5 +1,5 @@
 // Bytes that spell schedules, and bytes that do not.
-use crate::{ScheduleFault, Step, read_schedule};
+use schedule_replay::{ScheduleFault, Step, read_schedule};
 use std::alloc::Global;
 use std::process::Abort;
 use std::test::Fail;

@@ -1,5 +1,5 @@
 // A client of the smallest screen: what it answers, and which bytes it sends.
-use crate::{Client, Ups};
+use client_core::{Client, Ups};
 use counter_stage::{CounterScreen, CounterTree};
 use hub_messages::{Asked, CircuitFault, Got, Outcome, Refusal, Screen, ScreenFault};
 use page_core::{BatchFault, Counts};

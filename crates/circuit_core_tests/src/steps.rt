@@ -2,7 +2,7 @@
 ghost use Rattle.std.specs.Prelude.{◌≢◌, ◌≤◌, IfOk};
 ghost use Rattle.hub_messages.specs.Stage.{IsFirst};
 
-use crate::{AckDone, Circuit};
+use circuit_core::{AckDone, Circuit};
 use counter_stage::CounterStage;
 use hub_messages::{CircuitFault, Down, Outcome, Refusal, Stage, Up};
 use std::alloc::Global;

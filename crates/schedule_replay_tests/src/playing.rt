@@ -1,6 +1,6 @@
 // The lines of schedules, over the counter.
-use crate::{read_schedule, replay};
 use counter_stage::{CounterScreen, CounterStage};
+use schedule_replay::{read_schedule, replay};
 use std::alloc::Global;
 use std::process::Abort;
 use std::test::Fail;

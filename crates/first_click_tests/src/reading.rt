@@ -1,6 +1,6 @@
 // Components at examples, and that each call can succeed.
-use crate::{Component, Field, Item, fresh_node, fresh_nodes, read};
 use cs_ast::{AssignOp, BinaryOp, Code, StepOp, Variable};
+use first_click::{Component, Field, Item, fresh_node, fresh_nodes, read};
 use page_core::{Node, Page, print};
 use sqlite_items::Items;
 use std::alloc::Global;

@@ -1,6 +1,6 @@
 // The pieces of short texts, and where texts have none.
-use crate::{Piece, PieceKind, Quote, RazorFault, pieces};
 use cs_token::TokenKind;
+use razor_token::{Piece, PieceKind, Quote, RazorFault, pieces};
 use std::alloc::Global;
 use std::process::Abort;
 use std::test::Fail;
