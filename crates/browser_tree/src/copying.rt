@@ -1,10 +1,12 @@
 // Copies of trees, on which the edits of a batch are tried.
 ghost use Rattle.std.specs.Prelude.{◌≡◌, IfOk};
 
+use crate::component_tree::ComponentTree;
 use crate::names;
 use edit_meaning::BrowserNode;
 use sqlite_items::Items;
 use std::alloc::Global;
+use std::collections::BTreeMap;
 use text_core::Oom;
 
 /// The same node once more.
@@ -46,4 +48,15 @@ pub(crate) fn copy_all(alloc: Global, nodes: &[BrowserNode]) -> Result<Items<Bro
         copies.push(copy(alloc, node)?)?;
     }
     Ok(copies)
+}
+
+/// The same trees once more.
+pub(crate) fn copy_tree(alloc: Global, tree: &ComponentTree) -> Result<ComponentTree, Oom>
+    ensures { IfOk result (λ copy. copy.entries ≡ tree.now.entries) }
+{
+    let mut copy = BTreeMap::new(alloc);
+    for (number, nodes) in tree.iter() {
+        copy.insert(*number, copy_all(alloc, nodes.as_slice())?)?;
+    }
+    Ok(copy)
 }

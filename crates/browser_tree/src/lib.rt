@@ -4,7 +4,7 @@
 //! the tree is as it was. `page` is the page that the tree shows. It is not said that memory is found.
 #![tactic(auto)]
 
-
+mod browser;
 mod component_tree;
 mod copying;
 mod counting;
@@ -14,6 +14,6 @@ mod lists;
 mod making;
 mod names;
 mod permutation;
+mod showing;
 
-
-
+pub use browser::Browser;

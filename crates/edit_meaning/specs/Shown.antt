@@ -10,7 +10,8 @@ use Rattle.edit_meaning.specs.declared.browser_node.BrowserNode.TheFolds.{fold-B
 use Rattle.edit_meaning.specs.Focus.{Tree}
 use Rattle.edit_meaning.specs.Edits.{nodes_of}
 
-abbrev shown_layer : (ℕ → List Node) → BrowserNode-F (List Node) → List Node
+-- what one layer of a node shows, where its children show these
+abbrev pub shown_layer : (ℕ → List Node) → BrowserNode-F (List Node) → List Node
 shown_layer shown_of (Element born name names children) = page.Element born name names.attributes names.handlers (flat_map (λ child. child) children) ∷ []
 shown_layer shown_of (Text born text) = page.Text born text ∷ []
 shown_layer shown_of (Markup born text) = page.Markup born text ∷ []
