@@ -18,7 +18,7 @@ of_type_first number list lists = of_type-append number list.edits (edits_of lis
 pub of_type_within : (number : ℕ) (edits : List Edit) → of_type number edits ≤ length edits
 of_type_within number edits =
     let both : of_type number edits + length (filter (λ edit. not (type_of edit == number)) edits) ≡ length edits
-             = length-filter_both (λ edit. type_of edit == number) (λ edit. not (type_of edit == number)) (λ edit. refl) edits
+    = length-filter_both (λ edit. type_of edit == number) (λ edit. not (type_of edit == number)) (λ edit. refl) edits
     in omega arith
 
 -- where all edits are few, so are those of a type that are counted and those in the next list

@@ -21,7 +21,7 @@ unfolding IsStrictlySortedBy
 inserted_last [] entry rest sorted = refl
 inserted_last (first ∷ front) entry rest sorted =
     ap (λ order. match_ordering order (entry ∷ first ∷ front) ((first.0, entry.1) ∷ front) (first ∷ insert_entry nat_cmp front entry.0 entry.1))
-        (nat_cmp_total.antisymm entry.0 first.0 ∙ ap ordering_reverse (below first.0 front entry rest sorted.0))
+    (nat_cmp_total.antisymm entry.0 first.0 ∙ ap ordering_reverse (below first.0 front entry rest sorted.0))
     ∙ ap (λ it. first ∷ it) (inserted_last front entry rest sorted.1)
 
 -- an entry more is copied

@@ -135,12 +135,7 @@ fn set_markup(node: BrowserNode, text: &Txt) -> Result<BrowserNode, ApplyFault>
 }
 
 /// The focus with a node put in at a place.
-fn put_in(
-    alloc: Global,
-    sibling: u32,
-    node: BrowserNode,
-    focus: Focus,
-) -> Result<Focus, ApplyFault>
+fn put_in(alloc: Global, sibling: u32, node: BrowserNode, focus: Focus) -> Result<Focus, ApplyFault>
     ensures { Puts sibling node focus result }
 {
     let Focus {

@@ -49,9 +49,7 @@ pub(crate) fn move_all(
 pub(crate) fn apart(entry: Entry, entries: &[Entry]) -> bool
     ensures { result ≡ is_apart entry entries.now }
 {
-    entries
-        .iter()
-        .all(|other| !(other.from == entry.from) && !(other.to == entry.to))
+    entries.iter().all(|other| !(other.from == entry.from) && !(other.to == entry.to))
 }
 
 fn is_second(place: u32, entries: &[Entry]) -> bool

@@ -94,11 +94,12 @@ with_markup text (Component number) = Err NotText
 
 -- the element at a place is gone into: its children are edited
 abbrev pub entered : ℕ → Focus → BrowserNode-F BrowserNode → Edited
-entered sibling focus (Element born name names children) = Ok (record
-  { here = children
-  ; above = record { siblings = remove focus.here sibling; place = sibling; born = born; name = name; names = names } ∷ focus.above
-  ; entries = focus.entries
-  ; tree = focus.tree })
+entered sibling focus (Element born name names children) = Ok (record {
+  here = children;
+  above = record { siblings = remove focus.here sibling; place = sibling; born = born; name = name; names = names } ∷ focus.above;
+  entries = focus.entries;
+  tree = focus.tree;
+})
 entered sibling focus (Text born text) = Err NotElement
 entered sibling focus (Markup born text) = Err NotElement
 entered sibling focus (Component number) = Err NotElement
@@ -110,11 +111,12 @@ entered_at sibling focus (Some found) = entered sibling focus (out-BrowserNode f
 -- the element stands among its siblings again, with the children that it has now
 abbrev pub left : Focus → List Level → Edited
 left focus [] = Err Unbalanced
-left focus (level ∷ levels) = Ok (record
-  { here = insert level.siblings level.place (node.Element level.born level.name level.names focus.here)
-  ; above = levels
-  ; entries = focus.entries
-  ; tree = focus.tree })
+left focus (level ∷ levels) = Ok (record {
+  here = insert level.siblings level.place (node.Element level.born level.name level.names focus.here);
+  above = levels;
+  entries = focus.entries;
+  tree = focus.tree;
+})
 
 -- an entry more; both its places are within the list
 abbrev pub entry_taken : Entry → Focus → Edited

@@ -61,11 +61,7 @@ fn edits_in(lists: &[EditList]) -> Option<u32>
 
 impl Batch {
     /// A batch of these parts, or None where they have 2^32 edits or more.
-    pub fn of(
-        lists: Items<EditList>,
-        components: Items<u32>,
-        handlers: Items<u64>,
-    ) -> Option<Batch>
+    pub fn of(lists: Items<EditList>, components: Items<u32>, handlers: Items<u64>) -> Option<Batch>
         ensures some { IfSome result (λ batch. batch ≡ record { lists = lists; components = components; handlers = handlers }) }
         ensures none { IfNone result (2 ^ 32 ≤ edits_within lists) }
     {

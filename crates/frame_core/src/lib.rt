@@ -11,6 +11,3 @@ mod wire_node;
 pub use batch::{Batch, EditList};
 pub use edit::Edit;
 pub use wire_node::{WireAttribute, WireNode, WireValue};
-
-
-
