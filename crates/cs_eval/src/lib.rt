@@ -23,6 +23,8 @@ mod run;
 mod sections;
 mod statements;
 mod store;
+#[cfg(test)]
+mod tests;
 mod texts;
 mod variables;
 
