@@ -6,11 +6,10 @@ use crate::exit::Exit;
 use crate::progress::{Around, Progress};
 use crate::{Fault, Owners};
 use building::{
-    assign, binary, block, capturing, codes, counted, doubling, library, literal, methods,
-    one_two_three, perform, returned, text, while_true,
+    binary, causing, count_with, first_set, inner_breaks, invoked, less_call, literal, methods,
+    only_local, plus_call, removed, selecting, text, turns,
 };
-use cs_ast::{AssignOp, BinaryOp, Bodies, Code, LibraryMember, StepOp, Value, Variable, same};
-use sqlite_items::{Boxed, Items};
+use cs_ast::{BinaryOp, Code, Value, same};
 use std::alloc::Global;
 use std::process::Abort;
 use std::test::Fail;
@@ -64,10 +63,11 @@ struct End {
     progress: Progress,
 }
 
-fn run(rt: &impl Abort, alloc: Global, code: &Code, bodies: &Bodies, locals: Vec<Value>) -> End {
+fn run(rt: &impl Abort, alloc: Global, code: &Code, locals: Vec<Value>) -> Result<End, Oom> {
+    let bodies = methods(alloc)?;
     let around = Around {
         alloc,
-        bodies,
+        bodies: &bodies,
         who: 1,
         depth: 1,
     };
@@ -86,11 +86,11 @@ fn run(rt: &impl Abort, alloc: Global, code: &Code, bodies: &Bodies, locals: Vec
         Err(Exit::Fault(fault)) => Err(fault),
         Err(exit) => panic!(rt; "{exit:?}"),
     };
-    End {
+    Ok(End {
         outcome,
         owners,
         progress,
-    }
+    })
 }
 
 /// Compares the value or the fault, and what is left of a million units.
@@ -101,7 +101,7 @@ fn ends(
     want: Result<Value, Fault>,
     left: u32,
 ) -> Result<(), Oom> {
-    let end = run(rt, alloc, &code, &methods(alloc)?, Vec::new(alloc));
+    let end = run(rt, alloc, &code, Vec::new(alloc))?;
     match (&end.outcome, &want) {
         (Ok(value), Ok(want)) => assert!(rt; same(value, want), "{value:?}"),
         (Err(fault), Err(want)) => assert!(rt; fault == want, "{fault:?}"),
@@ -119,76 +119,72 @@ fn ends(
 #[test]
 fn loops_cost_units(rt: HostRuntime) -> Result<(), Fail> {
     let alloc = rt.alloc();
-    for (limit, want, left) in [
-        (0, Ok(Value::Null), 999_993),
-        (3, Ok(Value::Null), 999_978),
-        (199_998, Ok(Value::Null), 3),
-        (199_999, Err(Fault::FuelSpent), 0),
-    ] {
-        let turns = counted(alloc, limit, block(alloc, [])?)?;
-        ends(&rt, alloc, block(alloc, [turns])?, want, left)?;
+    for (limit, left) in [(0, 999_993), (3, 999_978), (199_998, 3)] {
+        ends(&rt, alloc, turns(alloc, limit)?, Ok(Value::Null), left)?;
     }
+    let spent = Err(Fault::FuelSpent);
+    ends(&rt, alloc, turns(alloc, 199_999)?, spent, 0)?;
     Ok(())
 }
 
 /// The list costs seven units, each member one and its arguments.
 #[test]
 fn lists_have_places(rt: HostRuntime) -> Result<(), Fail> {
-    use LibraryMember::{Count, Insert, RemoveAt, SetItem};
     let alloc = rt.alloc();
     let past = Err(Fault::IndexOutOfRange);
-    let removed = library(alloc, RemoveAt, [one_two_three(alloc)?, Code::Int(3)])?;
-    ends(&rt, alloc, removed, past, 999_991)?;
-    let inserted = library(
+    ends(&rt, alloc, removed(alloc, 3)?, past, 999_991)?;
+    ends(
+        &rt,
         alloc,
-        Insert,
-        [one_two_three(alloc)?, Code::Int(3), Code::Int(9)],
+        count_with(alloc, 3)?,
+        Ok(Value::Int(4)),
+        999_989,
     )?;
-    let count = library(alloc, Count, [inserted])?;
-    ends(&rt, alloc, count, Ok(Value::Int(4)), 999_989)?;
-    let set = library(
-        alloc,
-        SetItem,
-        [one_two_three(alloc)?, Code::Int(0), Code::Int(9)],
-    )?;
-    let first = Code::Index(Boxed::new(alloc, set)?, Boxed::new(alloc, Code::Int(0))?);
-    ends(&rt, alloc, first, Ok(Value::Int(9)), 999_988)?;
+    ends(&rt, alloc, first_set(alloc)?, Ok(Value::Int(9)), 999_988)?;
     Ok(())
 }
 
 #[test]
-fn numbers_fault(rt: HostRuntime) -> Result<(), Fail> {
+fn numbers_are_computed(rt: HostRuntime) -> Result<(), Fail> {
     let alloc = rt.alloc();
     for (op, x, y, want) in [
-        (BinaryOp::Divide, 7, 0, Err(Fault::DivideByZero)),
-        (BinaryOp::Remainder, 7, 0, Err(Fault::DivideByZero)),
         (BinaryOp::Divide, i32::MIN, -1, Err(Fault::Overflow)),
         (BinaryOp::Remainder, i32::MIN, -1, Err(Fault::Overflow)),
-        (BinaryOp::Divide, -7, 2, Ok(Value::Int(-3))),
-        (BinaryOp::Remainder, -7, 2, Ok(Value::Int(-1))),
-        (BinaryOp::Add, i32::MAX, 1, Ok(Value::Int(i32::MIN))),
-        (BinaryOp::LessOrEqual, 2, 2, Ok(Value::Bool(true))),
-        (BinaryOp::NotEqual, 2, 2, Ok(Value::Bool(false))),
+        (BinaryOp::Remainder, 7, 0, Err(Fault::DivideByZero)),
+        (BinaryOp::Divide, -7, 2, Ok(-3)),
+        (BinaryOp::Remainder, -7, 2, Ok(-1)),
+        (BinaryOp::Add, i32::MAX, 1, Ok(i32::MIN)),
+        (BinaryOp::Multiply, i32::MAX, 2, Ok(-2)),
     ] {
         let code = binary(alloc, op, Code::Int(x), Code::Int(y))?;
+        let want = match want {
+            Ok(number) => Ok(Value::Int(number)),
+            Err(fault) => Err(fault),
+        };
         ends(&rt, alloc, code, want, 999_997)?;
     }
     Ok(())
 }
 
+fn joins(rt: &impl Abort, alloc: Global, a: Code, b: Code, want: &str) -> Result<(), Oom> {
+    let code = binary(alloc, BinaryOp::Add, a, b)?;
+    ends(rt, alloc, code, Ok(text(alloc, want)?), 999_997)
+}
+
 #[test]
 fn texts_are_joined(rt: HostRuntime) -> Result<(), Fail> {
     let alloc = rt.alloc();
-    for (x, y, want) in [
-        (Code::Null, Code::Null, ""),
-        (Code::Null, Code::Int(-1), "-1"),
-        (Code::Bool(true), literal(alloc, "a")?, "Truea"),
-        (literal(alloc, "a")?, Code::Bool(false), "aFalse"),
-        (literal(alloc, "a")?, Code::Null, "a"),
-    ] {
-        let code = binary(alloc, BinaryOp::Add, x, y)?;
-        ends(&rt, alloc, code, Ok(text(alloc, want)?), 999_997)?;
-    }
+    joins(&rt, alloc, Code::Null, Code::Null, "")?;
+    joins(&rt, alloc, Code::Null, literal(alloc, "a")?, "a")?;
+    joins(&rt, alloc, literal(alloc, "a")?, Code::Int(-1), "a-1")?;
+    joins(&rt, alloc, Code::Bool(true), literal(alloc, "a")?, "Truea")?;
+    joins(
+        &rt,
+        alloc,
+        literal(alloc, "a")?,
+        Code::Bool(false),
+        "aFalse",
+    )?;
     Ok(())
 }
 
@@ -197,28 +193,17 @@ fn texts_are_joined(rt: HostRuntime) -> Result<(), Fail> {
 #[test]
 fn faults_have_causes(rt: HostRuntime) -> Result<(), Fail> {
     let alloc = rt.alloc();
-    let quotient = binary(alloc, BinaryOp::Divide, Code::Int(7), Code::Int(0))?;
-    let lowest = binary(alloc, BinaryOp::Divide, Code::Int(i32::MIN), Code::Int(-1))?;
-    let length = library(alloc, LibraryMember::Length, [Code::Null])?;
-    let behind = [one_two_three(alloc)?, Code::Int(3)];
-    let removed = library(alloc, LibraryMember::RemoveAt, behind)?;
-    let endless = while_true(alloc, block(alloc, [])?)?;
-    let calls = Code::Call(7, codes(alloc, [])?);
     let sizes = (2 << 14) - 2;
-    for (code, fault, left) in [
-        (quotient, Fault::DivideByZero, 999_997),
-        (lowest, Fault::Overflow, 999_997),
-        (length, Fault::NullUse, 999_998),
-        (removed, Fault::IndexOutOfRange, 999_991),
-        (endless, Fault::FuelSpent, 0),
-        (calls, Fault::CallDepth, 1_000_000 - 1 - 99 * 3),
-        (
-            doubling(alloc)?,
-            Fault::ValueTooLarge,
-            999_996 - 14 * 4 - sizes,
-        ),
+    for (fault, left) in [
+        (Fault::DivideByZero, 999_997),
+        (Fault::Overflow, 999_997),
+        (Fault::NullUse, 999_998),
+        (Fault::IndexOutOfRange, 999_991),
+        (Fault::FuelSpent, 0),
+        (Fault::CallDepth, 1_000_000 - 1 - 99 * 3),
+        (Fault::ValueTooLarge, 999_996 - 14 * 4 - sizes),
     ] {
-        ends(&rt, alloc, code, Err(fault), left)?;
+        ends(&rt, alloc, causing(alloc, fault)?, Err(fault), left)?;
     }
     Ok(())
 }
@@ -227,15 +212,8 @@ fn faults_have_causes(rt: HostRuntime) -> Result<(), Fail> {
 #[test]
 fn operands_go_from_left_to_right(rt: HostRuntime) -> Result<(), Fail> {
     let alloc = rt.alloc();
-    let bodies = methods(alloc)?;
-    let called = Code::Call(8, codes(alloc, [])?);
-    let code = binary(alloc, BinaryOp::Subtract, Code::Field(0), called)?;
-    let end = run(&rt, alloc, &code, &bodies, Vec::new(alloc));
-    assert!(rt; matches!(&end.outcome, Ok(Value::Int(-4))));
-    let called = Code::Call(8, codes(alloc, [])?);
-    let code = assign(alloc, Variable::Field(0), AssignOp::Add, called)?;
-    let end = run(&rt, alloc, &code, &bodies, Vec::new(alloc));
-    assert!(rt; matches!(&end.owners.first, Value::Int(6)));
+    ends(&rt, alloc, less_call(alloc)?, Ok(Value::Int(-4)), 999_991)?;
+    ends(&rt, alloc, plus_call(alloc)?, Ok(Value::Int(6)), 999_988)?;
     Ok(())
 }
 
@@ -243,11 +221,7 @@ fn operands_go_from_left_to_right(rt: HostRuntime) -> Result<(), Fail> {
 #[test]
 fn callbacks_run_in_their_receivers(rt: HostRuntime) -> Result<(), Fail> {
     let alloc = rt.alloc();
-    let callback = Boxed::new(alloc, Code::Local(0))?;
-    let invoke = Code::Invoke(callback, Some(Boxed::new(alloc, Code::Int(9))?));
-    let mut locals = Vec::new(alloc);
-    locals.push(capturing(alloc)?)?;
-    let end = run(&rt, alloc, &invoke, &methods(alloc)?, locals);
+    let end = run(&rt, alloc, &invoked(alloc)?, only_local(alloc)?)?;
     assert!(rt; matches!(&end.outcome, Ok(Value::Null)));
     assert!(rt; matches!(&end.owners.first, Value::Int(1)));
     assert!(rt; matches!(&end.owners.second, Value::Int(40)));
@@ -257,38 +231,19 @@ fn callbacks_run_in_their_receivers(rt: HostRuntime) -> Result<(), Fail> {
     Ok(())
 }
 
-/// A `break` ends the inner loop alone.
+/// A `break` ends the inner loop alone: three turns of ten units, and nine before, between and behind them.
 #[test]
 fn breaks_end_one_loop(rt: HostRuntime) -> Result<(), Fail> {
     let alloc = rt.alloc();
-    let add = perform(alloc, Code::Step(Variable::Field(0), StepOp::Increment))?;
-    let inner = while_true(alloc, block(alloc, [add, Code::Break])?)?;
-    let code = counted(alloc, 3, inner)?;
-    let end = run(&rt, alloc, &code, &Bodies::new(alloc), Vec::new(alloc));
-    assert!(rt; matches!(&end.outcome, Ok(Value::Null)));
-    assert!(rt; matches!(&end.owners.first, Value::Int(4)));
-    assert!(rt; end.progress.locals.is_empty());
+    ends(&rt, alloc, inner_breaks(alloc)?, Ok(Value::Int(4)), 999_961)?;
     Ok(())
 }
 
-/// `switch (2) { default: return 7; case 1: case 2: return 8; }`, and of 5.
 #[test]
 fn sections_are_selected(rt: HostRuntime) -> Result<(), Fail> {
     let alloc = rt.alloc();
     for (value, want) in [(2, 8), (5, 7)] {
-        let otherwise = codes(alloc, [returned(alloc, Code::Int(7))?])?;
-        let labelled = codes(alloc, [returned(alloc, Code::Int(8))?])?;
-        let mut constants = Items::new(alloc);
-        constants.push(Value::Int(1))?;
-        constants.push(Value::Int(2))?;
-        let sections = [
-            Code::Section(Items::new(alloc), true, otherwise),
-            Code::Section(constants, false, labelled),
-        ];
-        let code = Code::Switch(
-            Boxed::new(alloc, Code::Int(value))?,
-            codes(alloc, sections)?,
-        );
+        let code = selecting(alloc, value)?;
         ends(&rt, alloc, code, Ok(Value::Int(want)), 999_996)?;
     }
     Ok(())

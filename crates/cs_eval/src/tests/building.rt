@@ -1,4 +1,5 @@
 // Code and values, built by hand.
+use crate::Fault;
 use cs_ast::{AssignOp, BinaryOp, Bodies, Code, LibraryMember, StepOp, Value, Variable};
 use sqlite_items::{Boxed, Items};
 use std::alloc::Global;
@@ -69,8 +70,14 @@ pub(super) fn counted(alloc: Global, limit: i32, body: Code) -> Made {
     ))
 }
 
+/// `{ for (int i = 0; i < limit; i++) { } }`
+pub(super) fn turns(alloc: Global, limit: i32) -> Made {
+    let code = counted(alloc, limit, block(alloc, [])?)?;
+    block(alloc, [code])
+}
+
 /// `ImmutableList<int>.Empty.Add(1).Add(2).Add(3)`
-pub(super) fn one_two_three(alloc: Global) -> Made {
+fn one_two_three(alloc: Global) -> Made {
     let mut list = library(alloc, LibraryMember::EmptyList, [])?;
     for n in 1..4 {
         list = library(alloc, LibraryMember::Add, [list, Code::Int(n)])?;
@@ -78,15 +85,96 @@ pub(super) fn one_two_three(alloc: Global) -> Made {
     Ok(list)
 }
 
-/// The method 7 calls itself; the method 8 sets the field to 10 and gives 5. The callback 3 sets the field to its first local.
+/// A list of three without its item at this place.
+pub(super) fn removed(alloc: Global, at: i32) -> Made {
+    let list = one_two_three(alloc)?;
+    library(alloc, LibraryMember::RemoveAt, [list, Code::Int(at)])
+}
+
+/// How many a list of three has with one more at this place.
+pub(super) fn count_with(alloc: Global, at: i32) -> Made {
+    let list = one_two_three(alloc)?;
+    let longer = library(
+        alloc,
+        LibraryMember::Insert,
+        [list, Code::Int(at), Code::Int(9)],
+    )?;
+    library(alloc, LibraryMember::Count, [longer])
+}
+
+/// The first of a list of three where 9 is set there.
+pub(super) fn first_set(alloc: Global) -> Made {
+    let list = one_two_three(alloc)?;
+    let set = library(
+        alloc,
+        LibraryMember::SetItem,
+        [list, Code::Int(0), Code::Int(9)],
+    )?;
+    let set = Boxed::new(alloc, set)?;
+    Ok(Code::Index(set, Boxed::new(alloc, Code::Int(0))?))
+}
+
+/// `{ for (int i = 0; i < 3; i++) while (true) { n++; break; } return n; }`
+pub(super) fn inner_breaks(alloc: Global) -> Made {
+    let add = perform(alloc, Code::Step(Variable::Field(0), StepOp::Increment))?;
+    let inner = while_true(alloc, block(alloc, [add, Code::Break])?)?;
+    let outer = counted(alloc, 3, inner)?;
+    block(alloc, [outer, returned(alloc, Code::Field(0))?])
+}
+
+/// A section of these labels that returns the number.
+fn section(alloc: Global, labels: &[i32], otherwise: bool, number: i32) -> Made {
+    let mut constants = Items::new(alloc);
+    for label in labels {
+        constants.push(Value::Int(*label))?;
+    }
+    let statement = returned(alloc, Code::Int(number))?;
+    Ok(Code::Section(constants, otherwise, codes(alloc, [statement])?))
+}
+
+/// `switch (value) { default: return 7; case 1: case 2: return 8; }`
+pub(super) fn selecting(alloc: Global, value: i32) -> Made {
+    let otherwise = section(alloc, &[], true, 7)?;
+    let labelled = section(alloc, &[1, 2], false, 8)?;
+    let sections = codes(alloc, [otherwise, labelled])?;
+    Ok(Code::Switch(Boxed::new(alloc, Code::Int(value))?, sections))
+}
+
+/// A call of a method without arguments.
+pub(super) fn call(alloc: Global, number: u32) -> Made {
+    Ok(Code::Call(number, codes(alloc, [])?))
+}
+
+/// `n - M()`, where M is the method 8.
+pub(super) fn less_call(alloc: Global) -> Made {
+    binary(alloc, BinaryOp::Subtract, Code::Field(0), call(alloc, 8)?)
+}
+
+/// `{ n += M(); return n; }`, where M is the method 8.
+pub(super) fn plus_call(alloc: Global) -> Made {
+    let added = assign(alloc, Variable::Field(0), AssignOp::Add, call(alloc, 8)?)?;
+    block(alloc, [added, returned(alloc, Code::Field(0))?])
+}
+
+/// A method that calls itself.
+fn endless_call(alloc: Global) -> Made {
+    let own = perform(alloc, call(alloc, 7)?)?;
+    block(alloc, [own])
+}
+
+/// A method that sets the field to 10 and gives 5.
+fn setting_call(alloc: Global) -> Made {
+    let sets = assign(alloc, Variable::Field(0), AssignOp::Set, Code::Int(10))?;
+    block(alloc, [sets, returned(alloc, Code::Int(5))?])
+}
+
+/// The methods 7, which calls itself, and 8, which sets the field; the callback 3, which sets the field to its first local.
 pub(super) fn methods(alloc: Global) -> Result<Bodies, Oom> {
     let mut bodies = Bodies::new(alloc);
-    let own = Code::Call(7, codes(alloc, [])?);
-    bodies.set(7, block(alloc, [perform(alloc, own)?])?)?;
-    let sets = assign(alloc, Variable::Field(0), AssignOp::Set, Code::Int(10))?;
+    bodies.set(7, endless_call(alloc)?)?;
+    bodies.set(8, setting_call(alloc)?)?;
     let captured = assign(alloc, Variable::Field(0), AssignOp::Set, Code::Local(0))?;
     bodies.set(3, captured)?;
-    bodies.set(8, block(alloc, [sets, returned(alloc, Code::Int(5))?])?)?;
     Ok(bodies)
 }
 
@@ -98,8 +186,26 @@ pub(super) fn doubling(alloc: Global) -> Made {
     block(alloc, [start, while_true(alloc, doubled)?])
 }
 
+/// The least code that meets a fault. Want of memory is met by none.
+pub(super) fn causing(alloc: Global, fault: Fault) -> Made {
+    match fault {
+        Fault::DivideByZero => quotient(alloc, 7, 0),
+        Fault::Overflow => quotient(alloc, i32::MIN, -1),
+        Fault::NullUse => library(alloc, LibraryMember::Length, [Code::Null]),
+        Fault::IndexOutOfRange => removed(alloc, 3),
+        Fault::FuelSpent => while_true(alloc, Code::Empty),
+        Fault::CallDepth => call(alloc, 7),
+        Fault::ValueTooLarge => doubling(alloc),
+        Fault::Oom => Ok(Code::Null),
+    }
+}
+
+fn quotient(alloc: Global, x: i32, y: i32) -> Made {
+    binary(alloc, BinaryOp::Divide, Code::Int(x), Code::Int(y))
+}
+
 /// A callback of instance 2 whose code is the body 3, and which captured 40.
-pub(super) fn capturing(alloc: Global) -> Result<Value, Oom> {
+fn capturing(alloc: Global) -> Result<Value, Oom> {
     let mut captures = Items::new(alloc);
     captures.push(Value::Int(40))?;
     Ok(Value::Callback {
@@ -107,4 +213,18 @@ pub(super) fn capturing(alloc: Global) -> Result<Value, Oom> {
         place: 3,
         captures,
     })
+}
+
+/// The callback as the only local.
+pub(super) fn only_local(alloc: Global) -> Result<Vec<Value>, Oom> {
+    let mut locals = Vec::new(alloc);
+    locals.push(capturing(alloc)?)?;
+    Ok(locals)
+}
+
+/// A call of the callback with 9.
+pub(super) fn invoked(alloc: Global) -> Made {
+    let callback = Boxed::new(alloc, Code::Local(0))?;
+    let argument = Boxed::new(alloc, Code::Int(9))?;
+    Ok(Code::Invoke(callback, Some(argument)))
 }
