@@ -3,3 +3,5 @@ pub mod ArgumentLemmas
 pub mod PartLemmas
 pub mod OutcomeLemmas
 pub mod PaidLemmas
+pub mod ChangeLemmas
+pub mod RunLemmas

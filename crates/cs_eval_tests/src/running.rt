@@ -1,15 +1,10 @@
-// Code of all forms, run by the evaluator itself, which asks nothing of it. Values, faults and units by hand.
-mod building;
-
-use crate::evaluator::evaluate;
-use crate::exit::Exit;
-use crate::progress::{Around, Progress};
-use crate::{Fault, Owners};
-use building::{
+// Code of all forms, run from a million units. Values, faults and units by hand.
+use crate::building::{
     binary, causing, count_with, first_set, inner_breaks, invoked, less_call, literal, methods,
-    only_local, plus_call, removed, selecting, text, turns,
+    no_locals, only_local, plus_call, removed, selecting, text, turns,
 };
 use cs_ast::{BinaryOp, Code, Value, same};
+use cs_eval::{Fault, Fuel, Locals, Owners, Ran, try_run};
 use std::alloc::Global;
 use std::process::Abort;
 use std::test::Fail;
@@ -55,41 +50,38 @@ impl Owners for Held {
     }
 }
 
-/// What came of a run: a value, or a fault; the fields of both instances; the units left.
+/// What came of a run: what it gave, or its fault; the fields of both instances, the locals, and the units left.
 #[derive(Drop)]
 struct End {
-    outcome: Result<Value, Fault>,
+    outcome: Result<Ran, Fault>,
     owners: Held,
-    progress: Progress,
+    locals: Locals,
+    left: u32,
 }
 
-fn run(rt: &impl Abort, alloc: Global, code: &Code, locals: Vec<Value>) -> Result<End, Oom> {
+/// Runs code of instance 1, where both fields are 1, one call deep.
+fn run(rt: &impl Abort, alloc: Global, code: &Code, locals: Locals) -> Result<End, Oom> {
     let bodies = methods(alloc)?;
-    let around = Around {
-        alloc,
-        bodies: &bodies,
-        who: 1,
-        depth: 1,
-    };
-    let mut progress = Progress {
-        locals,
-        receivers: Vec::new(alloc),
-        left: 1_000_000,
-    };
+    let mut locals = locals;
     let mut owners = Held {
         first: Value::Int(1),
         second: Value::Int(1),
     };
-    let outcome = match evaluate(&around, code, &mut progress, &mut owners) {
-        Ok(value) => Ok(value),
-        Err(Exit::Return(value)) => Ok(value),
-        Err(Exit::Fault(fault)) => Err(fault),
-        Err(exit) => panic!(rt; "{exit:?}"),
+    let mut fuel = Fuel {
+        left: 1_000_000,
+        depth: 1,
+    };
+    let ran = try_run(alloc, code, &bodies, 1, &mut locals, &mut owners, &mut fuel);
+    let outcome = match ran {
+        Ok(Some(ran)) => Ok(ran),
+        Ok(None) => panic!(rt; "the code is stuck"),
+        Err(fault) => Err(fault),
     };
     Ok(End {
         outcome,
         owners,
-        progress,
+        locals,
+        left: fuel.left,
     })
 }
 
@@ -101,17 +93,13 @@ fn ends(
     want: Result<Value, Fault>,
     left: u32,
 ) -> Result<(), Oom> {
-    let end = run(rt, alloc, &code, Vec::new(alloc))?;
+    let end = run(rt, alloc, &code, no_locals(alloc))?;
     match (&end.outcome, &want) {
-        (Ok(value), Ok(want)) => assert!(rt; same(value, want), "{value:?}"),
+        (Ok(ran), Ok(want)) => assert!(rt; same(&ran.value, want), "{ran:?}"),
         (Err(fault), Err(want)) => assert!(rt; fault == want, "{fault:?}"),
         (outcome, _) => panic!(rt; "{outcome:?}"),
     }
-    assert!(rt;
-        end.progress.left == left,
-        "{} units left",
-        end.progress.left
-    );
+    assert!(rt; end.left == left, "{} units left", end.left);
     Ok(())
 }
 
@@ -222,12 +210,13 @@ fn operands_go_from_left_to_right(rt: HostRuntime) -> Result<(), Fail> {
 fn callbacks_run_in_their_receivers(rt: HostRuntime) -> Result<(), Fail> {
     let alloc = rt.alloc();
     let end = run(&rt, alloc, &invoked(alloc)?, only_local(alloc)?)?;
-    assert!(rt; matches!(&end.outcome, Ok(Value::Null)));
+    let Ok(ran) = end.outcome else {
+        panic!(rt; "a fault");
+    };
+    assert!(rt; matches!(&ran.value, Value::Null) && ran.receivers.as_slice() == [2].as_slice());
     assert!(rt; matches!(&end.owners.first, Value::Int(1)));
     assert!(rt; matches!(&end.owners.second, Value::Int(40)));
-    assert!(rt; end.progress.receivers.as_slice() == [2].as_slice());
-    assert!(rt; end.progress.locals.len() == 1);
-    assert!(rt; end.progress.left == 999_994);
+    assert!(rt; end.locals.values.len() == 1 && end.left == 999_994);
     Ok(())
 }
 

@@ -1,55 +1,55 @@
 // Code and values, built by hand.
-use crate::Fault;
 use cs_ast::{AssignOp, BinaryOp, Bodies, Code, LibraryMember, StepOp, Value, Variable};
+use cs_eval::{Fault, Locals};
 use sqlite_items::{Boxed, Items};
 use std::alloc::Global;
 use text_core::{Oom, Txt};
 
-pub(super) type Made = Result<Code, Oom>;
+pub(crate) type Made = Result<Code, Oom>;
 
-pub(super) fn codes<const N: usize>(alloc: Global, codes: [Code; N]) -> Result<Items<Code>, Oom> {
+pub(crate) fn codes<const N: usize>(alloc: Global, codes: [Code; N]) -> Result<Items<Code>, Oom> {
     Ok(Items::from_vec(Vec::from_array(alloc, codes)?))
 }
 
-pub(super) fn text(alloc: Global, said: &str) -> Result<Value, Oom> {
+pub(crate) fn text(alloc: Global, said: &str) -> Result<Value, Oom> {
     Ok(Value::Text(Txt::from_str(alloc, said)?))
 }
 
-pub(super) fn literal(alloc: Global, said: &str) -> Made {
+pub(crate) fn literal(alloc: Global, said: &str) -> Made {
     Ok(Code::Text(Txt::from_str(alloc, said)?))
 }
 
-pub(super) fn binary(alloc: Global, op: BinaryOp, a: Code, b: Code) -> Made {
+pub(crate) fn binary(alloc: Global, op: BinaryOp, a: Code, b: Code) -> Made {
     Ok(Code::Binary(op, Boxed::new(alloc, a)?, Boxed::new(alloc, b)?))
 }
 
-pub(super) fn perform(alloc: Global, e: Code) -> Made {
+pub(crate) fn perform(alloc: Global, e: Code) -> Made {
     Ok(Code::Perform(Boxed::new(alloc, e)?))
 }
 
-pub(super) fn assign(alloc: Global, target: Variable, op: AssignOp, e: Code) -> Made {
+pub(crate) fn assign(alloc: Global, target: Variable, op: AssignOp, e: Code) -> Made {
     let assignment = Code::Assign(target, op, Boxed::new(alloc, e)?);
     perform(alloc, assignment)
 }
 
-pub(super) fn declare(alloc: Global, e: Code) -> Made {
+pub(crate) fn declare(alloc: Global, e: Code) -> Made {
     Ok(Code::Declare(Boxed::new(alloc, e)?))
 }
 
-pub(super) fn block<const N: usize>(alloc: Global, statements: [Code; N]) -> Made {
+pub(crate) fn block<const N: usize>(alloc: Global, statements: [Code; N]) -> Made {
     Ok(Code::Block(codes(alloc, statements)?))
 }
 
-pub(super) fn while_true(alloc: Global, body: Code) -> Made {
+pub(crate) fn while_true(alloc: Global, body: Code) -> Made {
     let test = Boxed::new(alloc, Code::Bool(true))?;
     Ok(Code::While(test, Boxed::new(alloc, body)?))
 }
 
-pub(super) fn returned(alloc: Global, e: Code) -> Made {
+pub(crate) fn returned(alloc: Global, e: Code) -> Made {
     Ok(Code::Return(Some(Boxed::new(alloc, e)?)))
 }
 
-pub(super) fn library<const N: usize>(
+pub(crate) fn library<const N: usize>(
     alloc: Global,
     member: LibraryMember,
     arguments: [Code; N],
@@ -58,7 +58,7 @@ pub(super) fn library<const N: usize>(
 }
 
 /// `for (int i = 0; i < limit; i++)`, where i is the first local.
-pub(super) fn counted(alloc: Global, limit: i32, body: Code) -> Made {
+pub(crate) fn counted(alloc: Global, limit: i32, body: Code) -> Made {
     let start = declare(alloc, Code::Int(0))?;
     let test = binary(alloc, BinaryOp::Less, Code::Local(0), Code::Int(limit))?;
     let step = Code::Step(Variable::Local(0), StepOp::Increment);
@@ -71,7 +71,7 @@ pub(super) fn counted(alloc: Global, limit: i32, body: Code) -> Made {
 }
 
 /// `{ for (int i = 0; i < limit; i++) { } }`
-pub(super) fn turns(alloc: Global, limit: i32) -> Made {
+pub(crate) fn turns(alloc: Global, limit: i32) -> Made {
     let code = counted(alloc, limit, block(alloc, [])?)?;
     block(alloc, [code])
 }
@@ -86,13 +86,13 @@ fn one_two_three(alloc: Global) -> Made {
 }
 
 /// A list of three without its item at this place.
-pub(super) fn removed(alloc: Global, at: i32) -> Made {
+pub(crate) fn removed(alloc: Global, at: i32) -> Made {
     let list = one_two_three(alloc)?;
     library(alloc, LibraryMember::RemoveAt, [list, Code::Int(at)])
 }
 
 /// How many a list of three has with one more at this place.
-pub(super) fn count_with(alloc: Global, at: i32) -> Made {
+pub(crate) fn count_with(alloc: Global, at: i32) -> Made {
     let list = one_two_three(alloc)?;
     let longer = library(
         alloc,
@@ -103,7 +103,7 @@ pub(super) fn count_with(alloc: Global, at: i32) -> Made {
 }
 
 /// The first of a list of three where 9 is set there.
-pub(super) fn first_set(alloc: Global) -> Made {
+pub(crate) fn first_set(alloc: Global) -> Made {
     let list = one_two_three(alloc)?;
     let set = library(
         alloc,
@@ -115,7 +115,7 @@ pub(super) fn first_set(alloc: Global) -> Made {
 }
 
 /// `{ for (int i = 0; i < 3; i++) while (true) { n++; break; } return n; }`
-pub(super) fn inner_breaks(alloc: Global) -> Made {
+pub(crate) fn inner_breaks(alloc: Global) -> Made {
     let add = perform(alloc, Code::Step(Variable::Field(0), StepOp::Increment))?;
     let inner = while_true(alloc, block(alloc, [add, Code::Break])?)?;
     let outer = counted(alloc, 3, inner)?;
@@ -133,7 +133,7 @@ fn section(alloc: Global, labels: &[i32], otherwise: bool, number: i32) -> Made 
 }
 
 /// `switch (value) { default: return 7; case 1: case 2: return 8; }`
-pub(super) fn selecting(alloc: Global, value: i32) -> Made {
+pub(crate) fn selecting(alloc: Global, value: i32) -> Made {
     let otherwise = section(alloc, &[], true, 7)?;
     let labelled = section(alloc, &[1, 2], false, 8)?;
     let sections = codes(alloc, [otherwise, labelled])?;
@@ -141,17 +141,17 @@ pub(super) fn selecting(alloc: Global, value: i32) -> Made {
 }
 
 /// A call of a method without arguments.
-pub(super) fn call(alloc: Global, number: u32) -> Made {
+pub(crate) fn call(alloc: Global, number: u32) -> Made {
     Ok(Code::Call(number, codes(alloc, [])?))
 }
 
 /// `n - M()`, where M is the method 8.
-pub(super) fn less_call(alloc: Global) -> Made {
+pub(crate) fn less_call(alloc: Global) -> Made {
     binary(alloc, BinaryOp::Subtract, Code::Field(0), call(alloc, 8)?)
 }
 
 /// `{ n += M(); return n; }`, where M is the method 8.
-pub(super) fn plus_call(alloc: Global) -> Made {
+pub(crate) fn plus_call(alloc: Global) -> Made {
     let added = assign(alloc, Variable::Field(0), AssignOp::Add, call(alloc, 8)?)?;
     block(alloc, [added, returned(alloc, Code::Field(0))?])
 }
@@ -169,7 +169,7 @@ fn setting_call(alloc: Global) -> Made {
 }
 
 /// The methods 7, which calls itself, and 8, which sets the field; the callback 3, which sets the field to its first local.
-pub(super) fn methods(alloc: Global) -> Result<Bodies, Oom> {
+pub(crate) fn methods(alloc: Global) -> Result<Bodies, Oom> {
     let mut bodies = Bodies::new(alloc);
     bodies.set(7, endless_call(alloc)?)?;
     bodies.set(8, setting_call(alloc)?)?;
@@ -179,7 +179,7 @@ pub(super) fn methods(alloc: Global) -> Result<Bodies, Oom> {
 }
 
 /// A text that is doubled again and again, from 64 bytes on, is too large behind 1,048,575.
-pub(super) fn doubling(alloc: Global) -> Made {
+pub(crate) fn doubling(alloc: Global) -> Made {
     let said = "0123456789abcdef0123456789abcdef0123456789abcdef0123456789abcdef";
     let start = declare(alloc, literal(alloc, said)?)?;
     let doubled = assign(alloc, Variable::Local(0), AssignOp::Add, Code::Local(0))?;
@@ -187,7 +187,7 @@ pub(super) fn doubling(alloc: Global) -> Made {
 }
 
 /// The least code that meets a fault. Want of memory is met by none.
-pub(super) fn causing(alloc: Global, fault: Fault) -> Made {
+pub(crate) fn causing(alloc: Global, fault: Fault) -> Made {
     match fault {
         Fault::DivideByZero => quotient(alloc, 7, 0),
         Fault::Overflow => quotient(alloc, i32::MIN, -1),
@@ -216,14 +216,20 @@ fn capturing(alloc: Global) -> Result<Value, Oom> {
 }
 
 /// The callback as the only local.
-pub(super) fn only_local(alloc: Global) -> Result<Vec<Value>, Oom> {
-    let mut locals = Vec::new(alloc);
-    locals.push(capturing(alloc)?)?;
+pub(crate) fn only_local(alloc: Global) -> Result<Locals, Oom> {
+    let mut locals = no_locals(alloc);
+    locals.values.push(capturing(alloc)?)?;
     Ok(locals)
 }
 
+pub(crate) fn no_locals(alloc: Global) -> Locals {
+    Locals {
+        values: Vec::new(alloc),
+    }
+}
+
 /// A call of the callback with 9.
-pub(super) fn invoked(alloc: Global) -> Made {
+pub(crate) fn invoked(alloc: Global) -> Made {
     let callback = Boxed::new(alloc, Code::Local(0))?;
     let argument = Boxed::new(alloc, Code::Int(9))?;
     Ok(Code::Invoke(callback, Some(argument)))
