@@ -4,4 +4,3 @@ pub mod PartLemmas
 pub mod OutcomeLemmas
 pub mod PaidLemmas
 pub mod ChangeLemmas
-pub mod RunLemmas
