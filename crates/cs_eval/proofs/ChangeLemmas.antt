@@ -1,6 +1,6 @@
 -- Changes of fields found again.
 use Rattle.std.proofs.Common.{◌≡◌, ℕ, ◌<◌, List, [], Bool, true, false, Some, refl, sym, ap, ◌∙◌, arith}
-use Rattle.std.specs.Prelude.{◌==◌, ◌&&◌, if◌then◌else◌, cond, Option, None, Decides}
+use Rattle.std.specs.Prelude.{◌==◌, ◌&&◌, if◌then◌else◌, cond, Option, Decides}
 use Rattle.std.specs.Bool.{one_answer}
 use Rattle.std.specs.Option.{option_or}
 use Rattle.std.specs.Cmp.{ranks}
