@@ -1,5 +1,5 @@
 // `run_code` and `eval` over two fields, which ask that the code isn't stuck: what the fields hold then, and the units left, by hand.
-ghost use Rattle.std.specs.Prelude.{◌≡◌, ◌<◌, [], ◌∷◌, IfOk};
+ghost use Rattle.std.specs.Prelude.{◌≡◌, ◌<◌, [], ◌∷◌, pos, IfOk};
 ghost use Rattle.cs_ast.specs.declared.value.Value.TheVariants.{Int};
 ghost use Rattle.cs_meaning.specs.FirstForms.{IsStatement};
 
@@ -50,7 +50,7 @@ impl Owners for Held {
 }
 
 fn zeros(alloc: Global) -> Result<Held, Oom>
-    ensures { IfOk result (λ owners. owners.fields ≡ Int 0 ∷ Int 0 ∷ []) }
+    ensures { IfOk result (λ owners. owners.fields ≡ Int (pos 0) ∷ Int (pos 0) ∷ []) }
 {
     let mut fields = Items::new(alloc);
     fields.push(Value::Int(0))?;
