@@ -7,7 +7,7 @@ use crate::present::Present;
 use cs_ast::{Bodies, Code};
 use first_click::Method;
 use hub_messages::CircuitFault;
-use plain_eval::{Fault, Fuel, Locals, run_code};
+use cs_eval::{Fault, Fuel, Locals, run_code};
 use sqlite_items::at;
 use std::alloc::Global;
 use text_core::Oom;
