@@ -1,0 +1,54 @@
+-- What code in a template is judged by.
+use Rattle.std.specs.Prelude.{ℕ, Bool, false, List, [], ◌∷◌, ◌++◌, length, take, if◌then◌else◌, Option, Some, None}
+use Rattle.cs_ast.specs.declared.cs_type.CsType.{CsType}
+use Rattle.cs_ast.specs.declared.identifier.Ident.{Ident}
+use Rattle.cs_ast.specs.declared.scope.Scope.{Scope}
+use Rattle.cs_rules.specs.Judged.{Judged, fine, ◌>>=◌}
+use Rattle.cs_rules.specs.Names.{is_new, with_local}
+use Rattle.razor_rules.specs.declared.mark.Mark.{Mark}
+use Rattle.razor_rules.specs.declared.mark.Mark.TheVariants.{Steady, Changed}
+use Rattle.razor_rules.specs.Forbidden.{Forbids, either}
+use Rattle.razor_rules.specs.Restrictions.{captures, impure}
+use Rattle.razor_rules.specs.Scopes.{Home, effects_in, member_scope}
+
+-- the scope at a place of a template, with a mark for each local in it; how many of these are outside of the innermost fragment round the place; and whether a `break` there is one of a `switch`
+pub record Ground : Type 0 where
+  pub scope : Scope
+  pub marks : List Mark
+  pub outside : ℕ
+  pub in_switch : Bool
+
+-- at the top of a template
+abbrev pub top : Home → Ground
+top home = record { scope = member_scope home; marks = []; outside = 0; in_switch = false }
+
+-- in a fragment
+abbrev pub in_fragment : Ground → Ground
+in_fragment g = record g { outside = length g.marks; in_switch = false }
+
+-- in the body of a loop, or in a section of a `switch`
+abbrev pub in_loop : Ground → Ground
+in_loop g = record g { in_switch = false }
+
+-- behind the declaration of a local with this mark
+abbrev pub behind_local : Ground → Scope → Mark → Ground
+behind_local g s mark = record g { scope = s; marks = g.marks ++ mark ∷ [] }
+
+-- the mark of a local that is assigned in its scope, or isn't
+abbrev pub mark_of : Bool → Mark
+mark_of assigned = if assigned then Changed else Steady
+
+-- a new local of a type, if there is one
+abbrev pub with_new : Option CsType → Ident → Bool → Ground → Judged Ground
+with_new None name assigned g = fine g
+with_new (Some cs_type) name assigned g = do
+  new ← is_new g.scope name
+  fine (behind_local g (with_local g.scope name.name cs_type) (mark_of assigned))
+
+-- what is forbidden in code that is run when the template is
+abbrev pub forbidden_at : Home → Ground → Forbids
+forbidden_at home g = either (captures (take g.outside g.marks)) (impure (effects_in home))
+
+-- what is forbidden in a lambda, which is run later
+abbrev pub forbidden_in_lambda : Ground → Forbids
+forbidden_in_lambda g = captures g.marks
