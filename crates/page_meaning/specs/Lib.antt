@@ -6,4 +6,6 @@ pub mod Callbacks
 pub mod Attributes
 pub mod Nodes
 pub mod Tags
+pub mod Placed
 pub mod Parts
+pub mod Items

@@ -35,21 +35,17 @@ use Rattle.page_meaning.specs.declared.item.Supplied.{Supplied}
 use Rattle.page_meaning.specs.Captures.{used, with_captured}
 use Rattle.page_meaning.specs.Drawing.{Draws, stuck, done, pay, ◌>>=◌}
 use Rattle.page_meaning.specs.Stages.{Stage, Output, output, joined, if_fine}
+use Rattle.page_meaning.specs.Placed.{Placed, template, element_placed, attributes_placed}
 use Rattle.page_meaning.specs.Nodes as node
 use Rattle.page_meaning.specs.Nodes.{Makes, ended}
 use Rattle.page_meaning.specs.Tags as tags
 use Rattle.page_meaning.specs.Tags.{Target, target_of}
 
--- the template of a fragment: whose code it is, and what it makes
-pub record Template : Type 0 where
-  pub home : Home
-  pub makes : Stage → Draws (List Item)
-
--- what stands in a tag: what it does besides computing, what it makes as a list of its own, and the templates of the fragments in it
+-- what stands in a tag: what it does besides computing, what it makes as a list of its own, and what is placed in it
 pub record Content : Type 0 where
   pub does : Deed → Bool
   pub makes : Stage → Scope → Draws (List Item)
-  pub templates : Home → Scope → List (ℕ × Template)
+  pub placed : Home → Scope → List (ℕ × Placed)
 
 -- a tag that may be that of a fragment: its number, its name, the place of its `<`, the name that it gives to the argument, if it does, and its content
 pub record Tag : Type 0 where
@@ -59,7 +55,7 @@ pub record Tag : Type 0 where
   pub context : Option Ident
   pub content : Content
 
--- a part of a template: whether it is a text of white space alone; the tag that it is, if it may be that of a fragment; the number of the node whose key is that of a turn with this body, or of this item in it; what it does besides computing; what it makes, and the scope behind it; and the templates of the fragments in it, by their numbers
+-- a part of a template: whether it is a text of white space alone; the tag that it is, if it may be that of a fragment; the number of the node whose key is that of a turn with this body, or of this item in it; what it does besides computing; what it makes, and the scope behind it; and the bodies and the templates of fragments in it, by their numbers
 pub record Part : Type 0 where
   pub blank : Bool
   pub tag : Option Tag
@@ -67,7 +63,7 @@ pub record Part : Type 0 where
   pub does : Deed → Bool
   pub makes : Makes
   pub behind : Scope → Judged Scope
-  pub templates : Home → Scope → List (ℕ × Template)
+  pub placed : Home → Scope → List (ℕ × Placed)
 
 abbrev pub unless_broke : Output → Draws Output → Draws Output
 unless_broke out next = if out.broke then done out else (do
@@ -81,14 +77,14 @@ in_order (one ∷ others) stage s = do
   out ← one.makes stage s
   unless_broke out (if_fine (one.behind s) (in_order others stage))
 
-abbrev pub templates_behind : Judged Scope → (Scope → List (ℕ × Template)) → List (ℕ × Template)
-templates_behind (fine s) next = next s
-templates_behind (breaks rule place) next = []
+abbrev pub placed_behind : Judged Scope → (Scope → List (ℕ × Placed)) → List (ℕ × Placed)
+placed_behind (fine s) next = next s
+placed_behind (breaks rule place) next = []
 
--- the templates in parts one after another
-abbrev pub templates_in : List Part → Home → Scope → List (ℕ × Template)
-templates_in [] home s = []
-templates_in (one ∷ others) home s = one.templates home s ++ templates_behind (one.behind s) (templates_in others home)
+-- what is placed in parts one after another
+abbrev pub placed_in : List Part → Home → Scope → List (ℕ × Placed)
+placed_in [] home s = []
+placed_in (one ∷ others) home s = one.placed home s ++ placed_behind (one.behind s) (placed_in others home)
 
 abbrev pub any_does : List Part → Deed → Bool
 any_does parts deed = list_any (λ one. one.does deed) parts
@@ -104,14 +100,14 @@ siblings_of parts stage s = do
   ended out
 
 abbrev pub content_of : List Part → Content
-content_of parts = record { does = any_does parts; makes = siblings_of parts; templates = templates_in parts }
+content_of parts = record { does = any_does parts; makes = siblings_of parts; placed = placed_in parts }
 
-abbrev pub no_templates : Home → Scope → List (ℕ × Template)
-no_templates home s = []
+abbrev pub nothing_placed : Home → Scope → List (ℕ × Placed)
+nothing_placed home s = []
 
 -- a part that is no tag and declares nothing
-abbrev pub plain : (Deed → Bool) → Makes → (Home → Scope → List (ℕ × Template)) → Part
-plain does makes templates = record { blank = false; tag = None; keyed = None; does = does; makes = makes; behind = fine; templates = templates }
+abbrev pub plain : (Deed → Bool) → Makes → (Home → Scope → List (ℕ × Placed)) → Part
+plain does makes placed = record { blank = false; tag = None; keyed = None; does = does; makes = makes; behind = fine; placed = placed }
 
 -- the parts that count: all but white space alone
 abbrev pub counted : List Part → List Part
@@ -135,10 +131,10 @@ abbrev pub fragment_scope : Home → Scope → Content → Option CsType → Ide
 fragment_scope home s content argument name = with_context argument name (with_captured (used content.does s) (member_scope home))
 
 -- a fragment at a number of the content: its own template, and those in it
-abbrev pub fragment_templates : Home → Scope → ℕ → Content → Option CsType → Ident → List (ℕ × Template)
-fragment_templates home s number content argument name =
-    (number_at home.first home.members number, record { home = home; makes = λ stage. content.makes stage (fragment_scope home s content argument name) })
-    ∷ content.templates home (fragment_scope home s content argument name)
+abbrev pub fragment_placed : Home → Scope → ℕ → Content → Option CsType → Ident → List (ℕ × Placed)
+fragment_placed home s number content argument name =
+    (number_at home.first home.members number, template (record { home = home; makes = λ stage. content.makes stage (fragment_scope home s content argument name) }))
+    ∷ content.placed home (fragment_scope home s content argument name)
 
 -- the content of a component's tag: the tags of fragments, or all of it for `ChildContent`
 pub data Inside : Type 0 where
@@ -153,20 +149,20 @@ inside around parts =
     if list_all (is_fragment_tag around) (counted parts) then tags_of (flat_map (λ one. tag_list one.tag) (counted parts))
     else loose (content_of parts)
 
-abbrev pub templates_for : Option (Option CsType) → (Option CsType → List (ℕ × Template)) → List (ℕ × Template)
-templates_for None templates = []
-templates_for (Some argument) templates = templates argument
+abbrev pub placed_for : Option (Option CsType) → (Option CsType → List (ℕ × Placed)) → List (ℕ × Placed)
+placed_for None templates = []
+placed_for (Some argument) placed = placed argument
 
-abbrev pub templates_inside : Inside → Tagged → Home → Scope → ℕ → Place → Option Ident → List (ℕ × Template)
-templates_inside (tags_of tags) around home s number place outer =
-    flat_map (λ tag. templates_for (fragment_taken around tag.name) (λ argument. fragment_templates home s tag.number tag.content argument (context_name tag.context outer tag.place))) tags
-templates_inside (loose content) around home s number place outer =
-    templates_for (fragment_taken around (codes "ChildContent")) (λ argument. fragment_templates home s number content argument (context_name outer None place))
+abbrev pub placed_inside : Inside → Tagged → Home → Scope → ℕ → Place → Option Ident → List (ℕ × Placed)
+placed_inside (tags_of tags) around home s number place outer =
+    flat_map (λ tag. placed_for (fragment_taken around tag.name) (λ argument. fragment_placed home s tag.number tag.content argument (context_name tag.context outer tag.place))) tags
+placed_inside (loose content) around home s number place outer =
+    placed_for (fragment_taken around (codes "ChildContent")) (λ argument. fragment_placed home s number content argument (context_name outer None place))
 
--- the templates in the content of a component's tag
-abbrev pub tag_templates : Option Tagged → List Part → Home → Scope → ℕ → Place → Option Ident → List (ℕ × Template)
-tag_templates None parts home s number place outer = []
-tag_templates (Some around) parts home s number place outer = templates_inside (inside around parts) around home s number place outer
+-- what is placed in the content of a component's tag
+abbrev pub tag_placed : Option Tagged → List Part → Home → Scope → ℕ → Place → Option Ident → List (ℕ × Placed)
+tag_placed None parts home s number place outer = []
+tag_placed (Some around) parts home s number place outer = placed_inside (inside around parts) around home s number place outer
 
 -- what the tags of fragments give, one after another
 abbrev pub tag_gifts : List Tag → Target → Stage → Scope → Draws (List Supplied)
@@ -211,16 +207,16 @@ behind_start start s = started (option_map statement start) s >>>= λ it. fine i
 abbrev pub behind_item : List ℕ → Expr → Scope → Judged Scope
 behind_item name list s = value_in s list >>>= λ x. items_of x.place x.expr_type >>>= λ item. fine (with_local s name item)
 
--- a section of a `switch`: what it does besides computing, its labels with what it makes, and the templates in it
+-- a section of a `switch`: what it does besides computing, its labels with what it makes, and what is placed in it
 pub record Part_of_switch : Type 0 where
   pub does : Deed → Bool
   pub section : Section Makes
-  pub templates : Home → Scope → List (ℕ × Template)
+  pub placed : Home → Scope → List (ℕ × Placed)
 
 -- a node, by its parts
 abbrev pub part : TNode-F Part Part_of_switch → Part
 part (TNode-F.Element number place name attributes children) =
-    record (plain (λ deed. attributes_do deed attributes || any_does children deed) (node.element number name.name attributes (siblings_of children)) (templates_in children)) { keyed = keyed_tag number attributes }
+    record (plain (λ deed. attributes_do deed attributes || any_does children deed) (node.element number name.name attributes (siblings_of children)) (λ home s. element_placed attributes home s ++ placed_in children home s)) { keyed = keyed_tag number attributes }
 part (TNode-F.Child number place name attributes children) =
     record {
       blank = false;
@@ -229,34 +225,34 @@ part (TNode-F.Child number place name attributes children) =
       does = λ deed. attributes_do deed attributes || any_does children deed;
       makes = component number name.name attributes children;
       behind = fine;
-      templates = λ home s. tag_templates (tagged home name.name) children home s number place (context_in attributes);
+      placed = λ home s. attributes_placed (tagged home name.name) attributes home s ++ tag_placed (tagged home name.name) children home s number place (context_in attributes);
     }
-part (TNode-F.Text number place said) = record (plain (λ deed. false) (node.text number said) no_templates) { blank = is_white said }
-part (TNode-F.Raw number place said) = plain (λ deed. false) (node.raw number said) no_templates
-part (TNode-F.Content number place a) = plain (λ deed. expression_does deed a) (node.content number a) no_templates
-part (TNode-F.Group place items) = plain (any_does items) (in_order items) (templates_in items)
-part (TNode-F.Statement one) = record (plain (λ deed. statement_does deed one) (node.plain_statement one) no_templates) { behind = behind_statement one }
-part (TNode-F.Block place items) = record (plain (any_does items) (node.block (in_order items)) (templates_in items)) { keyed = first_keyed items }
+part (TNode-F.Text number place said) = record (plain (λ deed. false) (node.text number said) nothing_placed) { blank = is_white said }
+part (TNode-F.Raw number place said) = plain (λ deed. false) (node.raw number said) nothing_placed
+part (TNode-F.Content number place a) = plain (λ deed. expression_does deed a) (node.content number a) nothing_placed
+part (TNode-F.Group place items) = plain (any_does items) (in_order items) (placed_in items)
+part (TNode-F.Statement one) = record (plain (λ deed. statement_does deed one) (node.plain_statement one) nothing_placed) { behind = behind_statement one }
+part (TNode-F.Block place items) = record (plain (any_does items) (node.block (in_order items)) (placed_in items)) { keyed = first_keyed items }
 part (TNode-F.If place test holds fails) =
     plain (λ deed. expression_does deed test || holds.does deed || if_any (λ (one : Part). one.does deed) fails)
     (node.branch test holds.makes (option_map (λ (one : Part). one.makes) fails))
-    (λ home s. holds.templates home s ++ flat_map (λ (one : Part). one.templates home s) (option_list fails))
+    (λ home s. holds.placed home s ++ flat_map (λ (one : Part). one.placed home s) (option_list fails))
 part (TNode-F.Switch place a sections) =
     plain (λ deed. expression_does deed a || list_any (λ (one : Part_of_switch). one.does deed) sections)
     (node.switch a (map (λ (one : Part_of_switch). one.section) sections))
-    (λ home s. flat_map (λ (one : Part_of_switch). one.templates home s) sections)
+    (λ home s. flat_map (λ (one : Part_of_switch). one.placed home s) sections)
 part (TNode-F.For number place start test step body) =
     plain (λ deed. if_any (statement_does deed) start || if_any (expression_does deed) test || if_any (expression_does deed) step || body.does deed)
     (node.for_loop number start test step body.keyed body.makes)
-    (λ home s. templates_behind (behind_start start s) (body.templates home))
+    (λ home s. placed_behind (behind_start start s) (body.placed home))
 part (TNode-F.ForEach number place name list body) =
     plain (λ deed. expression_does deed list || body.does deed)
     (node.for_each number name.name list body.keyed body.makes)
-    (λ home s. templates_behind (behind_item name.name list s) (body.templates home))
+    (λ home s. placed_behind (behind_item name.name list s) (body.placed home))
 part (TNode-F.While number place test body) =
-    plain (λ deed. expression_does deed test || body.does deed) (node.while_loop number test body.keyed body.makes) body.templates
+    plain (λ deed. expression_does deed test || body.does deed) (node.while_loop number test body.keyed body.makes) body.placed
 
 unfoldable pub part_of : TNode → Part
 part_of =
     fold-TNode Part Part_of_switch part
-    (λ section. record { does = any_does section.items; section = node.section_of section.labels (in_order section.items); templates = templates_in section.items })
+    (λ section. record { does = any_does section.items; section = node.section_of section.labels (in_order section.items); placed = placed_in section.items })

@@ -11,6 +11,7 @@ use Rattle.cs_ast.specs.declared.member.Argument.{Argument}
 use Rattle.cs_ast.specs.declared.member.Member.{Member}
 use Rattle.cs_ast.specs.declared.member.MemberKind.{MemberKind}
 use Rattle.cs_ast.specs.declared.member.MemberKind.TheVariants.{Field, Parameter, Method, Getter, RecordDef}
+use Rattle.cs_ast.specs.declared.scope.Effect.{Effect}
 use Rattle.cs_rules.specs.declared.rule.Rule.TheVariants.{DuplicateName, BadLifecycle, MissingReturn, RecursiveRecord}
 use Rattle.cs_rules.specs.Judged.{◌>>=◌}
 use Rattle.cs_rules.specs.Types.{fitting}
@@ -20,7 +21,7 @@ use Rattle.razor_rules.specs.Members.{name_of, is_record, result_type}
 use Rattle.razor_rules.specs.Names.{repeated}
 use Rattle.razor_rules.specs.Forbidden.{Forbids, nothing, value_in}
 use Rattle.razor_rules.specs.Restrictions.{invoking}
-use Rattle.razor_rules.specs.Scopes.{Home, effects_in, initial_scope, member_scope, with_arguments, with_result}
+use Rattle.razor_rules.specs.Scopes.{Home, initial_scope, member_scope, with_arguments, with_result}
 use Rattle.razor_rules.specs.WrittenTypes.{argument_type, parameter_type}
 use Rattle.razor_rules.specs.Records.{contains_itself}
 use Rattle.razor_rules.specs.Bodies.{judged_body, reaches_end}
@@ -37,7 +38,7 @@ abbrev pub is_empty : List Argument → Bool
 is_empty [] = true
 is_empty (one ∷ others) = false
 
-module _ (home : Home) where
+module _ (home : Home) (effects : List (ℕ × Effect)) where
   -- the initial value of a field or a parameter of a type
   abbrev pub initial_rules : Option Expr → CsType → List Broken
   initial_rules None cs_type = []
@@ -49,7 +50,7 @@ module _ (home : Home) where
 
   -- what is forbidden in the body of a method of this name
   abbrev pub forbidden_in : List ℕ → Forbids
-  forbidden_in name = if is_lifecycle name then invoking (effects_in home) else nothing
+  forbidden_in name = if is_lifecycle name then invoking effects else nothing
 
   -- the body of a method
   unfoldable pub body_rules : List ℕ → Option TypeExpr → List Argument → Body → List Broken

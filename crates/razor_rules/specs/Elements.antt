@@ -85,12 +85,12 @@ module _ (home : Home) (element : List ℕ) (attributes : List Attribute) where
 
   abbrev pub part_rules : Ground → ValuePart → List Broken
   part_rules g (part.Literal text) = []
-  part_rules g (part.Shown a) = found (shown_value home g a)
+  part_rules g (part.Shown a) = found (shown_value g a)
 
   unfoldable pub attribute_rules : Ground → AttributeKind → List ℕ → List Broken
   attribute_rules g (ak.Mixed number value) name = flat_map (part_rules g) value
-  attribute_rules g (ak.Key a) name = found (key home g a)
-  attribute_rules g (ak.Event number a) name = found (callback home g a (Some (event_type name)))
+  attribute_rules g (ak.Key a) name = found (key g a)
+  attribute_rules g (ak.Event number a) name = found (callback g a (Some (event_type name)))
   attribute_rules g (ak.Bind number field) name = broken_unless (is_bindable (field_type home.members field.name)) BadBind field.place
   attribute_rules g _ name = []
 

@@ -2,6 +2,7 @@
 use Rattle.std.specs.Prelude.{ℕ, Bool, false, List, [], ◌∷◌, ◌++◌, length, take, if◌then◌else◌, Option, Some, None}
 use Rattle.cs_ast.specs.declared.cs_type.CsType.{CsType}
 use Rattle.cs_ast.specs.declared.identifier.Ident.{Ident}
+use Rattle.cs_ast.specs.declared.scope.Effect.{Effect}
 use Rattle.cs_ast.specs.declared.scope.Scope.{Scope}
 use Rattle.cs_rules.specs.Judged.{Judged, fine, ◌>>=◌}
 use Rattle.cs_rules.specs.Names.{is_new, with_local}
@@ -9,18 +10,19 @@ use Rattle.razor_rules.specs.declared.mark.Mark.{Mark}
 use Rattle.razor_rules.specs.declared.mark.Mark.TheVariants.{Steady, Changed}
 use Rattle.razor_rules.specs.Forbidden.{Forbids, either}
 use Rattle.razor_rules.specs.Restrictions.{captures, impure}
-use Rattle.razor_rules.specs.Scopes.{Home, effects_in, member_scope}
+use Rattle.razor_rules.specs.Scopes.{Home, member_scope}
 
--- the scope at a place of a template, with a mark for each local in it; how many of these are outside of the innermost fragment round the place; and whether a `break` there is one of a `switch`
+-- at a place of a template: the scope, with a mark for each local in it; how many of these are outside of the innermost fragment round the place; the effects of methods by the numbers of their bodies; and whether a `break` there is one of a `switch`
 pub record Ground : Type 0 where
   pub scope : Scope
   pub marks : List Mark
   pub outside : ℕ
+  pub effects : List (ℕ × Effect)
   pub in_switch : Bool
 
 -- at the top of a template
-abbrev pub top : Home → Ground
-top home = record { scope = member_scope home; marks = []; outside = 0; in_switch = false }
+abbrev pub top : Home → List (ℕ × Effect) → Ground
+top home effects = record { scope = member_scope home; marks = []; outside = 0; effects = effects; in_switch = false }
 
 -- in a fragment
 abbrev pub in_fragment : Ground → Ground
@@ -46,8 +48,8 @@ with_new (Some cs_type) name assigned g = do
   fine (behind_local g (with_local g.scope name.name cs_type) (mark_of assigned))
 
 -- what is forbidden in code that is run when the template is
-abbrev pub forbidden_at : Home → Ground → Forbids
-forbidden_at home g = either (captures (take g.outside g.marks)) (impure (effects_in home))
+abbrev pub forbidden_at : Ground → Forbids
+forbidden_at g = either (captures (take g.outside g.marks)) (impure g.effects)
 
 -- what is forbidden in a lambda, which is run later
 abbrev pub forbidden_in_lambda : Ground → Forbids

@@ -93,12 +93,12 @@ abbrev pub literal_rules : (Expr → Judged (Unit {0})) → Given → Judged (Un
 literal_rules judge (given.Value a) = judge a
 literal_rules judge given = fine tt
 
-module _ (home : Home) (g : Ground) where
+module _ (g : Ground) where
   -- what a parameter of a type is given by an attribute: a text by one without an at sign, where the type is a text's; else an expression
   abbrev pub given_rules : CsType → Place → Given → Judged (Unit {0})
   given_rules cs_type at given =
-      if is_text cs_type then literal_rules (supplied home g cs_type) given
-      else expression_of at given >>= supplied home g cs_type
+      if is_text cs_type then literal_rules (supplied g cs_type) given
+      else expression_of at given >>= supplied g cs_type
 
   -- what is given to a parameter whose type is none isn't looked at
   abbrev pub taken_rules : Option Takes → Place → Given → Judged (Unit {0})
@@ -108,12 +108,12 @@ module _ (home : Home) (g : Ground) where
   -- an expression that stands where a literal text has to
   abbrev pub no_literal : Expr → Judged (Unit {0})
   no_literal a = do
-    x ← value home g a
+    x ← value g a
     mismatch a.place
 
   abbrev pub cascading_rules : List ℕ → Place → Given → Judged (Unit {0})
   cascading_rules name at given =
-      if bytes_eq name (codes "Value") then expression_of at given >>= cascading home g
+      if bytes_eq name (codes "Value") then expression_of at given >>= cascading g
       else if bytes_eq name (codes "Name") then literal_rules no_literal given
       else if bytes_eq name (codes "ChildContent") then given_rules (t.Fragment None) at given
       else breaks UnknownParameter at

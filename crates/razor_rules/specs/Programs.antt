@@ -13,7 +13,7 @@ use Rattle.razor_ast.specs.Components.{SpellsFile}
 use Rattle.razor_rules.specs.Findings.{Broken, broken_unless, first_of}
 use Rattle.razor_rules.specs.Names.{is_among}
 use Rattle.razor_rules.specs.Numbers.{first_number}
-use Rattle.razor_rules.specs.Scopes.{Home, records_of}
+use Rattle.razor_rules.specs.Scopes.{Home, records_of, effects_in}
 use Rattle.razor_rules.specs.Grounds.{top}
 use Rattle.razor_rules.specs.Declarations.{members_rules}
 use Rattle.razor_rules.specs.Templates.{part_of, in_order}
@@ -22,15 +22,14 @@ use Rattle.razor_rules.specs.Templates.{part_of, in_order}
 unfoldable pub is_component_name : List ℕ → Bool
 is_component_name name = is_component name && list_all (is_in class.Word) name && not (bytes_eq name (codes "CascadingValue"))
 
--- where the code of the component at a position stands, whose methods have these effects
-abbrev pub home_of : List Component → ℕ → Component → List Effect → Home
-home_of components position component effects =
+-- where the code of the component at a position stands
+abbrev pub home_of : List Component → ℕ → Component → Home
+home_of components position component =
     record {
       records = records_of components;
       components = components;
       first = first_number components position;
       members = component.members;
-      effects = effects;
     }
 
 -- the rules that a file breaks by its name, behind these files
@@ -39,19 +38,24 @@ name_rules earlier component =
     broken_unless (not (is_among component.name (map (λ one. one.name) earlier))) DuplicateComponent first_place
     ++ broken_unless (is_component_name component.name) BadComponentName first_place
 
--- the rules that a file breaks, behind these files
-unfoldable pub file_rules : List Component → Home → Component → List Broken
-file_rules earlier home component =
+-- the rules that a file breaks, behind these files, whose methods have these effects
+unfoldable pub file_rules : List Component → Home → Component → List (ℕ × Effect) → List Broken
+file_rules earlier home component effects =
     name_rules earlier component
-    ++ members_rules home (records_of earlier)
-    ++ in_order (map (part_of home) component.nodes) (top home)
+    ++ members_rules home effects (records_of earlier)
+    ++ in_order (map (part_of home) component.nodes) (top home effects)
+
+-- the rules that the file at a position breaks
+abbrev pub of_file : List Component → ℕ → Component → List Effect → List Broken
+of_file components position one effects =
+    file_rules (take position components) (home_of components position one) one (effects_in (home_of components position one) effects)
 
 -- the same for each file from a position on
 abbrev pub files_rules : List Component → ℕ → List Component → List (List Effect) → List (List Broken)
 files_rules components position [] effects = []
 files_rules components position (one ∷ others) [] = []
 files_rules components position (one ∷ others) (effect ∷ effects) =
-    file_rules (take position components) (home_of components position one effect) one ∷ files_rules components (position + 1) others effects
+    of_file components position one effect ∷ files_rules components (position + 1) others effects
 
 -- a broken rule in the file at a position
 pub record Finding : Type 0 where

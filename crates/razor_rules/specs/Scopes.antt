@@ -16,17 +16,16 @@ use Rattle.razor_rules.specs.Members.{is_record, names_of, numbered_effects}
 abbrev pub records_of : List Component → List Member
 records_of components = flat_map (λ component. filter (λ one. is_record one.kind) component.members) components
 
--- where the code of a component stands: the records and the components of its program, the number of its first body, its members, and the effects of its methods
+-- where the code of a component stands: the records and the components of its program, the number of its first body, and its members
 pub record Home : Type 0 where
   pub records : List Member
   pub components : List Component
   pub first : ℕ
   pub members : List Member
-  pub effects : List Effect
 
--- the effects of methods by the numbers of their bodies
-abbrev pub effects_in : Home → List (ℕ × Effect)
-effects_in home = numbered_effects home.first home.members home.effects
+-- the effects of its methods by the numbers of their bodies
+abbrev pub effects_in : Home → List Effect → List (ℕ × Effect)
+effects_in home effects = numbered_effects home.first home.members effects
 
 -- of initial values: no member may be named
 abbrev pub initial_scope : Home → Scope

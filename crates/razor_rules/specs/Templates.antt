@@ -195,8 +195,8 @@ behind_start (Some name) g s = behind_local g s OfFor
 
 module _ (home : Home) where
   abbrev pub attribute_rules : Tagged → Ground → Attribute → AttributeKind → List Broken
-  attribute_rules tag g one (ak.Parameter number given) = parameter_rules home g tag one.name one.place given
-  attribute_rules tag g one (ak.Key a) = found (key home g a)
+  attribute_rules tag g one (ak.Parameter number given) = parameter_rules g tag one.name one.place given
+  attribute_rules tag g one (ak.Key a) = found (key g a)
   attribute_rules tag g one _ = []
 
   -- the tag of a component
@@ -210,14 +210,14 @@ module _ (home : Home) where
 
   -- a test
   abbrev pub test_rules : Expr → Ground → List Broken
-  test_rules a g = found (condition (uses (forbidden_at home g) a).value g.scope)
+  test_rules a g = found (condition (uses (forbidden_at g) a).value g.scope)
 
   -- a statement without statements in it; `break` stands in a `switch` only, and the other jumps nowhere
   abbrev pub statement_level : Level → Stmt → Ground → List Broken
   statement_level StmtKind-F.Break one g = if g.in_switch then [] else broken LoopJump one.place ∷ []
   statement_level StmtKind-F.Continue one g = broken LoopJump one.place ∷ []
   statement_level (StmtKind-F.Return value) one g = broken LoopJump one.place ∷ []
-  statement_level _ one g = found (statement (forbidden_at home g) one g.scope)
+  statement_level _ one g = found (statement (forbidden_at g) one g.scope)
 
   abbrev pub statement_part : Stmt → Part
   statement_part one =
@@ -228,17 +228,17 @@ module _ (home : Home) where
         declares = declared_by one;
         does = λ deed. statement_does deed one;
         rules = λ g. statement_level (out-StmtKind one.kind) one g;
-        behind = λ g. statement (forbidden_at home g) one g.scope >>= λ it. fine it.scope;
+        behind = λ g. statement (forbidden_at g) one g.scope >>= λ it. fine it.scope;
         as_fragment = no_fragment;
       }
 
   -- the start of a `for`
   abbrev pub started : Option Stmt → Ground → Judged Ground
   started None g = fine g
-  started (Some start) g = statement (forbidden_at home g) start g.scope >>= λ it. fine (behind_start (declared_by start) g it.scope)
+  started (Some start) g = statement (forbidden_at g) start g.scope >>= λ it. fine (behind_start (declared_by start) g it.scope)
 
   abbrev pub step_rules : Expr → Ground → List Broken
-  step_rules a g = found (value home g a)
+  step_rules a g = found (value g a)
 
   abbrev pub for_rules : Option Stmt → Option Expr → Option Expr → Part → Ground → List Broken
   for_rules start test step body g =
@@ -251,14 +251,14 @@ module _ (home : Home) where
   abbrev pub item_ground : Ident → Expr → Part → Ground → Judged Ground
   item_ground name list body g = do
     new ← is_new g.scope name
-    x ← value home g list
+    x ← value g list
     item ← items_of x.place x.expr_type
     fine (behind_local g (with_local g.scope name.name item) (mark_of (body.does (changing name.name))))
 
   -- the type by which a `switch` decides
   abbrev pub decided : Expr → Ground → Judged ExprType
   decided a g = do
-    x ← value home g a
+    x ← value g a
     if decides x.expr_type then fine x.expr_type else mismatch x.place
 
   -- a node, by its parts
@@ -278,7 +278,7 @@ module _ (home : Home) where
       }
   part (TNode-F.Text number place said) = text place (is_white said)
   part (TNode-F.Raw number place said) = text place false
-  part (TNode-F.Content number place a) = plain place (λ deed. expression_does deed a) (λ g. found (content home g a))
+  part (TNode-F.Content number place a) = plain place (λ deed. expression_does deed a) (λ g. found (content g a))
   part (TNode-F.Group place items) = plain place (any_does items) (in_order items)
   part (TNode-F.Statement one) = statement_part one
   part (TNode-F.Block place items) = plain place (any_does items) (in_order items)

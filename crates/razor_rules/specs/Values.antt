@@ -28,7 +28,6 @@ use Rattle.cs_rules.specs.Operators.{shown}
 use Rattle.cs_rules.specs.Types.{same_type, wants}
 use Rattle.cs_rules.specs.Written.{is_comparable}
 use Rattle.razor_rules.specs.Forbidden.{value_in}
-use Rattle.razor_rules.specs.Scopes.{Home}
 use Rattle.razor_rules.specs.Bodies.{judged_body}
 use Rattle.razor_rules.specs.Grounds.{Ground, forbidden_at, forbidden_in_lambda}
 
@@ -91,10 +90,10 @@ lambda_scope s place (Some name) (Some argument) = do
   new ← is_new s name
   fine (with_local s name.name argument)
 
-module _ (home : Home) (g : Ground) where
+module _ (g : Ground) where
   -- an expression
   abbrev pub value : Expr → Judged Checked
-  value a = value_in (forbidden_at home g) g.scope a
+  value a = value_in (forbidden_at g) g.scope a
 
   -- an expression as content
   unfoldable pub content : Expr → Judged (Unit {0})
@@ -111,7 +110,7 @@ module _ (home : Home) (g : Ground) where
   unfoldable pub key : Expr → Judged (Unit {0})
   key a = do
     x ← value a
-    if is_key home.records x.expr_type then fine tt else breaks BadKey x.place
+    if is_key g.scope.records x.expr_type then fine tt else breaks BadKey x.place
 
   -- a lambda as the value of a callback with such an argument
   unfoldable pub lambda : Place → Option Ident → Body → Option CsType → Judged (Unit {0})
