@@ -13,7 +13,7 @@ use Rattle.razor_ast.specs.declared.attribute.AttributeKind.{AttributeKind}
 use Rattle.razor_ast.specs.declared.attribute.AttributeKind.TheVariants as ak
 use Rattle.razor_ast.specs.declared.attribute.ValuePart.{ValuePart}
 use Rattle.razor_ast.specs.declared.attribute.ValuePart.TheVariants as part
-use Rattle.razor_rules.specs.Elements.{own_field, field_type, bound_attribute, bound_event}
+use Rattle.razor_rules.specs.Elements.{own_field, bound_attribute, bound_event}
 use Rattle.page_meaning.specs.declared.item.Worn.{Worn}
 use Rattle.page_meaning.specs.declared.item.Worn.TheVariants as worn
 use Rattle.page_meaning.specs.Drawing.{Draws, done, run, pay, begun, bytes_of, ◌>>=◌}

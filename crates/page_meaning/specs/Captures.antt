@@ -1,5 +1,5 @@
 -- The locals that a lambda or a fragment uses from outside it.
-use Rattle.std.specs.Prelude.{ℕ, ◌&&◌, ◌||◌, Bool, List, [], ◌∷◌, map, filter, Option}
+use Rattle.std.specs.Prelude.{◌&&◌, ◌||◌, Bool, List, [], ◌∷◌, map, filter}
 use Rattle.cs_ast.specs.declared.scope.Named.{Named}
 use Rattle.cs_ast.specs.declared.scope.Scope.{Scope}
 use Rattle.cs_ast.specs.declared.value.Value.{Value}

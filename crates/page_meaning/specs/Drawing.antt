@@ -1,5 +1,5 @@
 -- A rendering while it is made.
-use Rattle.std.specs.Prelude.{ℕ, ◌+◌, ◌||◌, nat_lt, encode_utf8_all, length, if◌then◌else◌, List, [], ◌∷◌}
+use Rattle.std.specs.Prelude.{ℕ, ◌+◌, ◌||◌, nat_lt, encode_utf8_all, length, if◌then◌else◌, List}
 use Rattle.cs_meaning.specs.State.{State}
 use Rattle.cs_meaning.specs.Outcome as code
 use Rattle.cs_meaning.specs.Outcome.{Outcome, charged}

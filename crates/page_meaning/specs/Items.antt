@@ -2,7 +2,7 @@
 use Rattle.std.specs.Prelude.{ℕ, zero, suc, ◌+◌, ◌-◌, List, [], ◌∷◌, ◌++◌, map, Option, Some, None}
 use Rattle.cs_ast.specs.declared.code.Code.{Code}
 use Rattle.cs_ast.specs.declared.value.Value.{Value}
-use Rattle.cs_meaning.specs.State.{Fields, State, state}
+use Rattle.cs_meaning.specs.State.{Fields, state}
 use Rattle.cs_meaning.specs.declared.fault.Fault.TheVariants.{CallDepth}
 use Rattle.cs_meaning.specs.Meaning.{setting}
 use Rattle.razor_ast.specs.declared.component.Component.{Component}

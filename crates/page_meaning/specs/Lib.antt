@@ -9,3 +9,5 @@ pub mod Tags
 pub mod Placed
 pub mod Parts
 pub mod Items
+pub mod Initial
+pub mod Fresh

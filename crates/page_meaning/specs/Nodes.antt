@@ -1,7 +1,6 @@
 -- What each form of node makes, by what its parts make.
-use Rattle.std.specs.Prelude.{ℕ, zero, suc, ◌+◌, ◌&&◌, ◌||◌, Bool, true, false, not, codes, is_some, List, [], ◌∷◌, ◌++◌, map, length, if◌then◌else◌, Option, Some, None, option_map}
-use Rattle.std.specs.Option.{option_or}
-use Rattle.std.specs.List.{list_any, flat_map}
+use Rattle.std.specs.Prelude.{ℕ, zero, suc, ◌+◌, Bool, true, List, [], ◌∷◌, length, if◌then◌else◌, Option, Some, None, option_map}
+use Rattle.std.specs.List.{flat_map}
 use Rattle.cs_ast.specs.declared.code.Code.{Code}
 use Rattle.cs_ast.specs.declared.cs_type.CsType.{CsType, out-CsType}
 use Rattle.cs_ast.specs.declared.cs_type.CsType.TheOpen.{CsType-F}
@@ -16,26 +15,23 @@ use Rattle.cs_ast.specs.declared.value.Value.{Value}
 use Rattle.cs_ast.specs.declared.value.Value.TheVariants as v
 use Rattle.cs_meaning.specs.declared.fault.Fault.TheVariants.{FuelSpent}
 use Rattle.cs_meaning.specs.State.{cut, with_local, spent}
-use Rattle.cs_meaning.specs.Kinds.{is_null, truth_of, items_of, fragment_of}
+use Rattle.cs_meaning.specs.Kinds.{truth_of, items_of, fragment_of}
 use Rattle.cs_meaning.specs.Reading as reading
 use Rattle.cs_meaning.specs.Sections.{Section, selected}
 use Rattle.cs_rules.specs.declared.checked.Checked.{Checked}
 use Rattle.cs_rules.specs.declared.checked.ExprType.{ExprType}
 use Rattle.cs_rules.specs.declared.checked.ExprType.TheVariants.{Of, Null, Markup}
-use Rattle.cs_rules.specs.Judged.{Judged, fine, breaks}
 use Rattle.cs_rules.specs.Expressions as rules
 use Rattle.cs_rules.specs.Names as names
 use Rattle.cs_rules.specs.Statements.{started, has_default}
 use Rattle.cs_rules.specs.Trees.{value_in, statement}
 use Rattle.razor_ast.specs.declared.attribute.Attribute.{Attribute}
-use Rattle.razor_ast.specs.declared.attribute.AttributeKind.{AttributeKind}
-use Rattle.razor_ast.specs.declared.attribute.AttributeKind.TheVariants as ak
 use Rattle.razor_rules.specs.Templates.{Level}
 use Rattle.page_meaning.specs.declared.fault.PageFault.TheVariants as fault
 use Rattle.page_meaning.specs.declared.item.Item.{Item}
 use Rattle.page_meaning.specs.declared.item.Item.TheVariants as item
-use Rattle.page_meaning.specs.Drawing.{Drawing, Drawn, Draws, faults, stuck, done, run, pay, begun_at, bytes_of, with_state, and_then, ◌>>=◌}
-use Rattle.page_meaning.specs.Stages.{Stage, deeper, Output, output, joined, if_fine, code_value, value, known}
+use Rattle.page_meaning.specs.Drawing.{Draws, faults, stuck, done, run, pay, begun_at, bytes_of, with_state, and_then, ◌>>=◌}
+use Rattle.page_meaning.specs.Stages.{Stage, deeper, Output, output, if_fine, code_value, value, known}
 use Rattle.page_meaning.specs.Keys.{siblings, key_of_turn}
 use Rattle.page_meaning.specs.Attributes.{shown, dressed}
 

@@ -1,5 +1,5 @@
 -- What templates make: by recursion on their nodes.
-use Rattle.std.specs.Prelude.{ℕ, ◌+◌, ◌&&◌, ◌||◌, Bool, true, false, not, codes, is_some, List, [], ◌∷◌, ◌++◌, map, filter, if◌then◌else◌, Option, Some, None, option_map}
+use Rattle.std.specs.Prelude.{ℕ, ◌||◌, Bool, true, false, not, codes, is_some, List, [], ◌∷◌, ◌++◌, map, filter, if◌then◌else◌, Option, Some, None, option_map}
 use Rattle.std.specs.Option.{option_or}
 use Rattle.std.specs.List.{list_any, list_all, flat_map}
 use Rattle.text_core.specs.declared.place.Place.{Place}
@@ -8,10 +8,8 @@ use Rattle.cs_ast.specs.declared.expression.Expr.{Expr}
 use Rattle.cs_ast.specs.declared.expression.Stmt.{Stmt}
 use Rattle.cs_ast.specs.declared.identifier.Ident.{Ident}
 use Rattle.cs_ast.specs.declared.scope.Scope.{Scope}
-use Rattle.cs_ast.specs.declared.scope.Named.{Named}
 use Rattle.cs_effects.specs.declared.deed.Deed.{Deed}
 use Rattle.cs_meaning.specs.Sections.{Section}
-use Rattle.cs_rules.specs.declared.checked.Checked.{Checked}
 use Rattle.cs_rules.specs.Expressions.{items_of}
 use Rattle.cs_rules.specs.Judged.{Judged, fine, breaks}
 use Rattle.cs_rules.specs.Judged.{◌>>=◌ as ◌>>>=◌}

@@ -1,19 +1,18 @@
 -- What parts of a template are drawn by.
-use Rattle.std.specs.Prelude.{ℕ, ◌+◌, Bool, false, List, [], ◌++◌, map, Option, Some, None}
+use Rattle.std.specs.Prelude.{ℕ, ◌+◌, Bool, false, List, ◌++◌, Option}
 use Rattle.cs_ast.specs.declared.code.Code.{Code}
 use Rattle.cs_ast.specs.declared.expression.Expr.{Expr}
 use Rattle.cs_ast.specs.declared.scope.Scope.{Scope}
 use Rattle.cs_ast.specs.declared.value.Value.{Value}
-use Rattle.cs_meaning.specs.State.{State, over}
+use Rattle.cs_meaning.specs.State.{over}
 use Rattle.cs_meaning.specs.Outcome.{found}
 use Rattle.cs_meaning.specs.Meaning.{Setting, meaning}
-use Rattle.cs_rules.specs.declared.checked.Checked.{Checked}
 use Rattle.cs_rules.specs.Judged.{Judged, fine, breaks}
 use Rattle.cs_rules.specs.Trees.{value_in}
 use Rattle.razor_rules.specs.Numbers.{number_at}
 use Rattle.razor_rules.specs.Scopes.{Home}
 use Rattle.page_meaning.specs.declared.item.Item.{Item}
-use Rattle.page_meaning.specs.Drawing.{Drawing, Drawn, Draws, stuck, done, run, with_state, and_then}
+use Rattle.page_meaning.specs.Drawing.{Draws, stuck, done, run, with_state, and_then}
 
 -- what a fragment shows at a depth in the page, by its receiver, its number and its captures
 abbrev pub Show : Type 0

@@ -1,6 +1,5 @@
 -- What the tag of a component makes.
-use Rattle.std.specs.Prelude.{ℕ, ◌+◌, ◌&&◌, ◌||◌, Bool, true, false, not, codes, is_some, List, [], ◌∷◌, ◌++◌, if◌then◌else◌, Option, Some, None, option_map, bytes_eq}
-use Rattle.std.specs.List.{list_all}
+use Rattle.std.specs.Prelude.{ℕ, ◌+◌, codes, List, [], ◌∷◌, ◌++◌, if◌then◌else◌, Option, Some, None, option_map, bytes_eq}
 use Rattle.cs_ast.specs.declared.cs_type.CsType.{CsType, out-CsType}
 use Rattle.cs_ast.specs.declared.cs_type.CsType.TheVariants as t
 use Rattle.cs_ast.specs.declared.cs_type.CsType.TheOpen.{CsType-F}
@@ -14,7 +13,7 @@ use Rattle.cs_ast.specs.declared.value.Value.{Value}
 use Rattle.cs_ast.specs.declared.value.Value.TheVariants as v
 use Rattle.cs_rules.specs.declared.checked.ExprType.{ExprType}
 use Rattle.cs_rules.specs.declared.checked.ExprType.TheVariants.{Of}
-use Rattle.cs_rules.specs.Judged.{Judged, fine, breaks}
+use Rattle.cs_rules.specs.Judged.{fine, breaks}
 use Rattle.cs_rules.specs.Trees.{value_in}
 use Rattle.cs_rules.specs.Written.{type_of}
 use Rattle.razor_ast.specs.declared.attribute.Attribute.{Attribute}
