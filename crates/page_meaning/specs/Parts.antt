@@ -27,7 +27,8 @@ use Rattle.razor_rules.specs.Numbers.{number_at}
 use Rattle.razor_rules.specs.Parameters.{Tagged, tagged, fragment_taken}
 use Rattle.razor_rules.specs.Scopes.{Home, member_scope}
 use Rattle.razor_rules.specs.TemplateDeeds.{if_any, expression_does, statement_does, attributes_do}
-use Rattle.razor_rules.specs.Templates.{context_in, context_name, option_list}
+use Rattle.razor_rules.specs.Tags.{context_in, context_name}
+use Rattle.razor_rules.specs.Templates.{option_list}
 use Rattle.page_meaning.specs.declared.item.Item.{Item}
 use Rattle.page_meaning.specs.declared.item.Supplied.{Supplied}
 use Rattle.page_meaning.specs.Captures.{used, with_captured}

@@ -1,0 +1,3 @@
+mod TemplateLaws
+mod ForbiddenLaws
+mod Examples

@@ -14,5 +14,7 @@ pub mod Values
 pub mod TemplateDeeds
 pub mod Elements
 pub mod Parameters
+pub mod Parts
+pub mod Tags
 pub mod Templates
 pub mod Programs

@@ -16,7 +16,8 @@ use Rattle.razor_rules.specs.Numbers.{first_number}
 use Rattle.razor_rules.specs.Scopes.{Home, records_of, effects_in}
 use Rattle.razor_rules.specs.Grounds.{top}
 use Rattle.razor_rules.specs.Declarations.{members_rules}
-use Rattle.razor_rules.specs.Templates.{part_of, in_order}
+use Rattle.razor_rules.specs.Parts.{in_order}
+use Rattle.razor_rules.specs.Templates.{part_of}
 
 -- a letter A to Z and then letters and digits, and not that of the built-in component
 unfoldable pub is_component_name : List ℕ → Bool
