@@ -26,7 +26,7 @@ use Rattle.razor_ast.specs.declared.attribute.AttributeKind.TheVariants as ak
 use Rattle.razor_ast.specs.declared.attribute.Given.{Given}
 use Rattle.razor_rules.specs.Bodies.{judged_body}
 use Rattle.razor_rules.specs.Elements.{event_type, own_field}
-use Rattle.razor_rules.specs.Forbidden.{nothing}
+use Rattle.cs_forbidden.specs.Roots.{nothing}
 use Rattle.razor_rules.specs.Members.{result_type}
 use Rattle.razor_rules.specs.Numbers.{number_at}
 use Rattle.razor_rules.specs.Parameters.{Tagged, Takes, taken}

@@ -11,7 +11,7 @@ use Rattle.razor_ast.specs.declared.component.Component.{Component}
 use Rattle.razor_ast.specs.declared.node.TNode.{TNode-F, roll-TNode}
 use Rattle.razor_rules.specs.Findings.{broken, comes_before, number_of}
 use Rattle.cs_rules.specs.Expressions.{name_read}
-use Rattle.razor_rules.specs.Forbidden.{uses_of_form}
+use Rattle.cs_forbidden.specs.Trees.{uses_of_form}
 use Rattle.razor_rules.specs.Grounds.{Ground, top, forbidden_at}
 use Rattle.cs_rules.specs.Judged.{fine, breaks, mismatch, ◌>>=◌}
 use Rattle.cs_rules.specs.Trees.{Uses}
@@ -22,7 +22,7 @@ use Rattle.razor_rules.specs.Scopes.{Home}
 use Rattle.razor_rules.specs.Values.{content}
 use Rattle.razor_rules.specs.Elements.{element_rules}
 use Rattle.razor_rules.proofs.TemplateLaws.{part_law}
-use Rattle.razor_rules.proofs.ForbiddenLaws.{uses_law, form_law}
+use Rattle.cs_forbidden.proofs.Laws.{uses_law, form_law}
 use Rattle.cs_rules.specs.Trees.{value_of_form}
 use Rattle.cs_rules.specs.Names.{meant_by, meant}
 

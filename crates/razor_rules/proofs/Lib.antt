@@ -1,3 +1,2 @@
 mod TemplateLaws
-mod ForbiddenLaws
 mod Examples

@@ -15,7 +15,8 @@ use Rattle.cs_rules.specs.declared.checked.Checked.{Checked}
 use Rattle.cs_rules.specs.Judged.{Judged, fine, ◌>>=◌}
 use Rattle.cs_rules.specs.Types.{has_values, wants}
 use Rattle.cs_accepted.specs.Bodies.{body_leaves}
-use Rattle.razor_rules.specs.Forbidden.{Forbids, value_in, body_in}
+use Rattle.cs_forbidden.specs.declared.forbidden.Forbidden.{Forbidden}
+use Rattle.cs_forbidden.specs.Trees.{value_in, body_in}
 
 -- one level of a body
 abbrev pub Level : Type 0
@@ -25,16 +26,16 @@ Level = Body-F Body ExprKind StmtKind TextPart Expr Section Stmt WithPart
 abbrev pub result_fits : CsType → Checked → Judged (Unit {0})
 result_fits result x = if has_values result then wants result x.place x.expr_type else fine tt
 
-abbrev pub judged_level : Forbids → Scope → Level → Judged Code
-judged_level forbids s (Body-F.Value a) = do
-  x ← value_in forbids s a
+abbrev pub judged_level : Forbidden → Scope → Level → Judged Code
+judged_level f s (Body-F.Value a) = do
+  x ← value_in f s a
   fits ← result_fits s.result x
   fine x.code
-judged_level forbids s (Body-F.Body::Block body) = body_in forbids s body
+judged_level f s (Body-F.Body::Block body) = body_in f s body
 
 -- what a body comes to in a scope, where these things are forbidden in it
-unfoldable pub judged_body : Forbids → Scope → Body → Judged Code
-judged_body forbids s body = judged_level forbids s (out-Body body)
+unfoldable pub judged_body : Forbidden → Scope → Body → Judged Code
+judged_body f s body = judged_level f s (out-Body body)
 
 abbrev pub level_ends : Level → Bool
 level_ends (Body-F.Value a) = false

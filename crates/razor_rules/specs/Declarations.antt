@@ -19,8 +19,10 @@ use Rattle.cs_rules.specs.Written.{written}
 use Rattle.razor_rules.specs.Findings.{Broken, found, found_then, broken_unless}
 use Rattle.razor_rules.specs.Members.{name_of, is_record, result_type}
 use Rattle.razor_rules.specs.Names.{repeated}
-use Rattle.razor_rules.specs.Forbidden.{Forbids, nothing, value_in}
-use Rattle.razor_rules.specs.Restrictions.{invoking}
+use Rattle.cs_forbidden.specs.declared.forbidden.Forbidden.{Forbidden}
+use Rattle.cs_forbidden.specs.Roots.{nothing}
+use Rattle.cs_forbidden.specs.Trees.{value_in}
+use Rattle.razor_rules.specs.Restrictions.{in_lifecycle}
 use Rattle.razor_rules.specs.Scopes.{Home, initial_scope, member_scope, with_arguments, with_result}
 use Rattle.razor_rules.specs.WrittenTypes.{argument_type, parameter_type}
 use Rattle.razor_rules.specs.Records.{contains_itself}
@@ -49,8 +51,8 @@ module _ (home : Home) (effects : List (ℕ × Effect)) where
   result_rules (Some result) = found (written home.records result)
 
   -- what is forbidden in the body of a method of this name
-  abbrev pub forbidden_in : List ℕ → Forbids
-  forbidden_in name = if is_lifecycle name then invoking effects else nothing
+  abbrev pub forbidden_in : List ℕ → Forbidden
+  forbidden_in name = if is_lifecycle name then in_lifecycle effects else nothing
 
   -- the body of a method
   unfoldable pub body_rules : List ℕ → Option TypeExpr → List Argument → Body → List Broken

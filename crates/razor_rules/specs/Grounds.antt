@@ -6,10 +6,10 @@ use Rattle.cs_ast.specs.declared.scope.Effect.{Effect}
 use Rattle.cs_ast.specs.declared.scope.Scope.{Scope}
 use Rattle.cs_rules.specs.Judged.{Judged, fine, ◌>>=◌}
 use Rattle.cs_rules.specs.Names.{is_new, with_local}
-use Rattle.razor_rules.specs.declared.mark.Mark.{Mark}
-use Rattle.razor_rules.specs.declared.mark.Mark.TheVariants.{Steady, Changed}
-use Rattle.razor_rules.specs.Forbidden.{Forbids, either}
-use Rattle.razor_rules.specs.Restrictions.{captures, impure}
+use Rattle.cs_forbidden.specs.declared.forbidden.Mark.{Mark}
+use Rattle.cs_forbidden.specs.declared.forbidden.Mark.TheVariants.{Steady, Changed}
+use Rattle.cs_forbidden.specs.declared.forbidden.Forbidden.{Forbidden}
+use Rattle.razor_rules.specs.Restrictions.{in_lambda, in_template}
 use Rattle.razor_rules.specs.Scopes.{Home, member_scope}
 
 -- at a place of a template: the scope, with a mark for each local in it; how many of these are outside of the innermost fragment round the place; the effects of methods by the numbers of their bodies; and whether a `break` there is one of a `switch`
@@ -48,9 +48,9 @@ with_new (Some cs_type) name assigned g = do
   fine (behind_local g (with_local g.scope name.name cs_type) (mark_of assigned))
 
 -- what is forbidden in code that is run when the template is
-abbrev pub forbidden_at : Ground → Forbids
-forbidden_at g = either (captures (take g.outside g.marks)) (impure g.effects)
+abbrev pub forbidden_at : Ground → Forbidden
+forbidden_at g = in_template (take g.outside g.marks) g.effects
 
 -- what is forbidden in a lambda, which is run later
-abbrev pub forbidden_in_lambda : Ground → Forbids
-forbidden_in_lambda g = captures g.marks
+abbrev pub forbidden_in_lambda : Ground → Forbidden
+forbidden_in_lambda g = in_lambda g.marks

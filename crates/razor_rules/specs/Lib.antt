@@ -2,7 +2,6 @@ pub mod Findings
 pub mod Names
 pub mod Members
 pub mod Numbers
-pub mod Forbidden
 pub mod Restrictions
 pub mod Scopes
 pub mod WrittenTypes

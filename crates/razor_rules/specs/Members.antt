@@ -1,6 +1,5 @@
 -- What members declare.
-use Rattle.std.specs.Prelude.{ℕ, ◌+◌, ◌==◌, ◌&&◌, Bool, true, false, if◌then◌else◌, List, [], ◌∷◌, ◌++◌, map, Option, Some, None}
-use Rattle.std.specs.List.{list_any}
+use Rattle.std.specs.Prelude.{ℕ, ◌+◌, Bool, true, false, if◌then◌else◌, List, [], ◌∷◌, ◌++◌, map, Option, Some, None}
 use Rattle.cs_ast.specs.declared.cs_type.CsType.{CsType}
 use Rattle.cs_ast.specs.declared.cs_type.CsType.TheVariants as t
 use Rattle.cs_ast.specs.declared.cs_type.TypeExpr.{TypeExpr}
@@ -77,7 +76,3 @@ numbered_effects number (one ∷ others) [] = []
 numbered_effects number (one ∷ others) (effect ∷ effects) =
     if is_method one.kind then (number, effect) ∷ numbered_effects (number + 1) others effects
     else numbered_effects (number + 1) others (effect ∷ effects)
-
--- whether the body of this number has an effect that passes a test
-abbrev pub has_effect : (Effect → Bool) → List (ℕ × Effect) → ℕ → Bool
-has_effect test effects number = list_any (λ one. (one.0 == number) && test one.1) effects

@@ -22,9 +22,9 @@ use Rattle.razor_ast.specs.Literals.{is_white}
 use Rattle.razor_ast.specs.declared.node.TNode.{TNode}
 use Rattle.razor_ast.specs.declared.node.TNode.TheOpen.{TNode-F}
 use Rattle.razor_ast.specs.declared.node.TNode.TheFolds.{fold-TNode}
-use Rattle.razor_rules.specs.declared.mark.Mark.TheVariants.{OfFor}
+use Rattle.cs_forbidden.specs.declared.forbidden.Mark.TheVariants.{OfFor}
 use Rattle.razor_rules.specs.Findings.{Broken, broken, found, found_then}
-use Rattle.razor_rules.specs.Forbidden.{statement, uses}
+use Rattle.cs_forbidden.specs.Trees.{statement, uses}
 use Rattle.razor_rules.specs.Scopes.{Home}
 use Rattle.razor_rules.specs.Grounds.{Ground, in_loop, behind_local, mark_of, forbidden_at}
 use Rattle.razor_rules.specs.Values.{value, content}

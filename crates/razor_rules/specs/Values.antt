@@ -27,7 +27,7 @@ use Rattle.cs_rules.specs.Names.{meant, is_new, with_local}
 use Rattle.cs_rules.specs.Operators.{shown}
 use Rattle.cs_rules.specs.Types.{same_type, wants}
 use Rattle.cs_rules.specs.Written.{is_comparable}
-use Rattle.razor_rules.specs.Forbidden.{value_in}
+use Rattle.cs_forbidden.specs.Trees.{value_in}
 use Rattle.razor_rules.specs.Bodies.{judged_body}
 use Rattle.razor_rules.specs.Grounds.{Ground, forbidden_at, forbidden_in_lambda}
 

@@ -2,9 +2,5 @@
 //!
 //! There are definitions alone here, which the checker of programs and what is above it cite. What expressions and statements
 //! come to is said by the rules of C# code; here stand the scopes that they are judged in, what is forbidden in templates and
-//! lambdas besides, and the rules of members, tags and files. Nothing here runs.
+//! lambdas, and the rules of members, tags and files. Nothing here runs.
 #![tactic(auto)]
-
-mod mark;
-
-pub use mark::Mark;

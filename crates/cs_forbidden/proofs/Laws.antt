@@ -20,7 +20,8 @@ use Rattle.cs_rules.specs.Expressions.{Given}
 use Rattle.cs_rules.specs.Statements as st
 use Rattle.cs_rules.specs.Statements.{Statement}
 use Rattle.cs_rules.specs.Trees.{Uses, Form, Form_of_statement, statement_of_form, text_part}
-use Rattle.razor_rules.specs.Forbidden.{Forbids, uses_of_form, uses, statement}
+use Rattle.cs_forbidden.specs.declared.forbidden.Forbidden.{Forbidden}
+use Rattle.cs_forbidden.specs.Trees.{uses_of_form, uses, statement}
 
 abbrev KindLayer : Type 0
 KindLayer = ExprKind-F Body ExprKind StmtKind TextPart Expr Section Stmt WithPart
@@ -28,68 +29,68 @@ KindLayer = ExprKind-F Body ExprKind StmtKind TextPart Expr Section Stmt WithPar
 abbrev StatementLayer : Type 0
 StatementLayer = StmtKind-F Body ExprKind StmtKind TextPart Expr Section Stmt WithPart
 
-module _ (forbids : Forbids) where
+module _ (f : Forbidden) where
   pub uses_of_kind : ExprKind → Place → Uses
   uses_of_kind =
       fold-ExprKind (Unit {0}) (Place → Uses) (Place → Statement) (Scope → Judged Code) Uses (ExprType → Scope → Judged Code) Statement Given
-      (λ body. tt) (uses_of_form forbids) statement_of_form text_part (λ it. it.kind it.place) (λ it. st.section it.labels it.body)
+      (λ body. tt) (uses_of_form f) statement_of_form text_part (λ it. it.kind it.place) (λ it. st.section it.labels it.body)
       (λ it. it.kind it.place) (λ it. record { name = it.name; value = it.value.value })
 
   pub statement_of_kind : StmtKind → Place → Statement
   statement_of_kind =
       fold-StmtKind (Unit {0}) (Place → Uses) (Place → Statement) (Scope → Judged Code) Uses (ExprType → Scope → Judged Code) Statement Given
-      (λ body. tt) (uses_of_form forbids) statement_of_form text_part (λ it. it.kind it.place) (λ it. st.section it.labels it.body)
+      (λ body. tt) (uses_of_form f) statement_of_form text_part (λ it. it.kind it.place) (λ it. st.section it.labels it.body)
       (λ it. it.kind it.place) (λ it. record { name = it.name; value = it.value.value })
 
   pub piece : TextPart → Scope → Judged Code
   piece =
       fold-TextPart (Unit {0}) (Place → Uses) (Place → Statement) (Scope → Judged Code) Uses (ExprType → Scope → Judged Code) Statement Given
-      (λ body. tt) (uses_of_form forbids) statement_of_form text_part (λ it. it.kind it.place) (λ it. st.section it.labels it.body)
+      (λ body. tt) (uses_of_form f) statement_of_form text_part (λ it. it.kind it.place) (λ it. st.section it.labels it.body)
       (λ it. it.kind it.place) (λ it. record { name = it.name; value = it.value.value })
 
   pub section : Section → ExprType → Scope → Judged Code
   section =
       fold-Section (Unit {0}) (Place → Uses) (Place → Statement) (Scope → Judged Code) Uses (ExprType → Scope → Judged Code) Statement Given
-      (λ body. tt) (uses_of_form forbids) statement_of_form text_part (λ it. it.kind it.place) (λ it. st.section it.labels it.body)
+      (λ body. tt) (uses_of_form f) statement_of_form text_part (λ it. it.kind it.place) (λ it. st.section it.labels it.body)
       (λ it. it.kind it.place) (λ it. record { name = it.name; value = it.value.value })
 
   pub given : WithPart → Given
   given =
       fold-WithPart (Unit {0}) (Place → Uses) (Place → Statement) (Scope → Judged Code) Uses (ExprType → Scope → Judged Code) Statement Given
-      (λ body. tt) (uses_of_form forbids) statement_of_form text_part (λ it. it.kind it.place) (λ it. st.section it.labels it.body)
+      (λ body. tt) (uses_of_form f) statement_of_form text_part (λ it. it.kind it.place) (λ it. st.section it.labels it.body)
       (λ it. it.kind it.place) (λ it. record { name = it.name; value = it.value.value })
 
   abbrev in_kind : KindLayer → Form
   in_kind = map-ExprKind Body ExprKind StmtKind TextPart Expr Section Stmt WithPart (Unit {0}) (Place → Uses) (Place → Statement) (Scope → Judged Code) Uses (ExprType → Scope → Judged Code) Statement Given
-      (λ body. tt) uses_of_kind statement_of_kind piece (uses forbids) section (statement forbids) given
+      (λ body. tt) uses_of_kind statement_of_kind piece (uses f) section (statement f) given
 
   abbrev in_statement : StatementLayer → Form_of_statement
   in_statement = map-StmtKind Body ExprKind StmtKind TextPart Expr Section Stmt WithPart (Unit {0}) (Place → Uses) (Place → Statement) (Scope → Judged Code) Uses (ExprType → Scope → Judged Code) Statement Given
-      (λ body. tt) uses_of_kind statement_of_kind piece (uses forbids) section (statement forbids) given
+      (λ body. tt) uses_of_kind statement_of_kind piece (uses f) section (statement f) given
 
-  pub uses_law : (a : Expr) → uses forbids a ≡ uses_of_kind a.kind a.place
+  pub uses_law : (a : Expr) → uses f a ≡ uses_of_kind a.kind a.place
   unfolding uses uses_of_kind
   uses_law a =
       fold_out-Expr (Unit {0}) (Place → Uses) (Place → Statement) (Scope → Judged Code) Uses (ExprType → Scope → Judged Code) Statement Given
-      (λ body. tt) (uses_of_form forbids) statement_of_form text_part (λ it. it.kind it.place) (λ it. st.section it.labels it.body)
+      (λ body. tt) (uses_of_form f) statement_of_form text_part (λ it. it.kind it.place) (λ it. st.section it.labels it.body)
       (λ it. it.kind it.place) (λ it. record { name = it.name; value = it.value.value }) a
 
-  pub statement_law : (a : Stmt) → statement forbids a ≡ statement_of_kind a.kind a.place
+  pub statement_law : (a : Stmt) → statement f a ≡ statement_of_kind a.kind a.place
   unfolding statement statement_of_kind
   statement_law a =
       fold_out-Stmt (Unit {0}) (Place → Uses) (Place → Statement) (Scope → Judged Code) Uses (ExprType → Scope → Judged Code) Statement Given
-      (λ body. tt) (uses_of_form forbids) statement_of_form text_part (λ it. it.kind it.place) (λ it. st.section it.labels it.body)
+      (λ body. tt) (uses_of_form f) statement_of_form text_part (λ it. it.kind it.place) (λ it. st.section it.labels it.body)
       (λ it. it.kind it.place) (λ it. record { name = it.name; value = it.value.value }) a
 
   -- a form at its root
-  pub form_law : (x : KindLayer) (place : Place) → uses_of_kind (roll-ExprKind x) place ≡ uses_of_form forbids (in_kind x) place
+  pub form_law : (x : KindLayer) (place : Place) → uses_of_kind (roll-ExprKind x) place ≡ uses_of_form f (in_kind x) place
   unfolding uses uses_of_kind piece given statement statement_of_kind section
   form_law x place = ap (λ f. f place) (fold-roll-ExprKind (Unit {0}) (Place → Uses) (Place → Statement) (Scope → Judged Code) Uses (ExprType → Scope → Judged Code) Statement Given
-      (λ body. tt) (uses_of_form forbids) statement_of_form text_part (λ it. it.kind it.place) (λ it. st.section it.labels it.body)
+      (λ body. tt) (uses_of_form f) statement_of_form text_part (λ it. it.kind it.place) (λ it. st.section it.labels it.body)
       (λ it. it.kind it.place) (λ it. record { name = it.name; value = it.value.value }) x)
 
   pub statement_form_law : (x : StatementLayer) (place : Place) → statement_of_kind (roll-StmtKind x) place ≡ statement_of_form (in_statement x) place
   unfolding uses uses_of_kind piece given statement statement_of_kind section
   statement_form_law x place = ap (λ f. f place) (fold-roll-StmtKind (Unit {0}) (Place → Uses) (Place → Statement) (Scope → Judged Code) Uses (ExprType → Scope → Judged Code) Statement Given
-      (λ body. tt) (uses_of_form forbids) statement_of_form text_part (λ it. it.kind it.place) (λ it. st.section it.labels it.body)
+      (λ body. tt) (uses_of_form f) statement_of_form text_part (λ it. it.kind it.place) (λ it. st.section it.labels it.body)
       (λ it. it.kind it.place) (λ it. record { name = it.name; value = it.value.value }) x)

@@ -1,6 +1,5 @@
--- What code comes to where some things are forbidden besides. An expression that breaks no other rule breaks this one, and what stands round it none.
+-- What code comes to where some things are forbidden besides.
 use Rattle.std.specs.Prelude.{List, map, Option, Some, None}
-use Rattle.std.specs.Option.{option_or}
 use Rattle.text_core.specs.declared.place.Place.{Place}
 use Rattle.cs_ast.specs.declared.code.Code.{Code}
 use Rattle.cs_ast.specs.declared.code.Code.TheVariants as c
@@ -8,8 +7,6 @@ use Rattle.cs_ast.specs.declared.expression.Expr.{Expr}
 use Rattle.cs_ast.specs.declared.expression.Stmt.{Stmt}
 use Rattle.cs_ast.specs.declared.expression.Body.TheFolds.{fold-Expr, fold-Stmt}
 use Rattle.cs_ast.specs.declared.scope.Scope.{Scope}
-use Rattle.cs_rules.specs.declared.callee.Called.{Called}
-use Rattle.cs_rules.specs.declared.callee.Called.TheVariants as called
 use Rattle.cs_rules.specs.declared.checked.Checked.{Checked}
 use Rattle.cs_rules.specs.declared.checked.ExprType.{ExprType}
 use Rattle.cs_rules.specs.declared.rule.Rule.{Rule}
@@ -19,34 +16,19 @@ use Rattle.cs_rules.specs.Statements as st
 use Rattle.cs_rules.specs.Statements.{Statement}
 use Rattle.cs_rules.specs.Trees as trees
 use Rattle.cs_rules.specs.Trees.{Uses, Form}
-
--- which rule an expression breaks by what its code does at its root, if it breaks one
-abbrev pub Forbids : Type 0
-Forbids = Code → Option Rule
-
--- nothing is forbidden
-abbrev pub nothing : Forbids
-nothing code = None
-
--- what either of two forbids
-abbrev pub either : Forbids → Forbids → Forbids
-either one other code = option_or (one code) (other code)
+use Rattle.cs_forbidden.specs.declared.forbidden.Forbidden.{Forbidden}
+use Rattle.cs_forbidden.specs.Roots.{against, against_called}
 
 -- what breaks no rule but perhaps this one
 abbrev pub allowed : {A : Type 0} → Option Rule → Place → A → Judged A
 allowed None place x = fine x
 allowed (Some rule) place x = breaks rule place
 
--- a fragment that is called is used as a value is
-abbrev pub forbidden_callee : Forbids → Called → Option Rule
-forbidden_callee forbids (called.Fill code) = forbids code
-forbidden_callee forbids _ = None
-
-module _ (forbids : Forbids) where
+module _ (f : Forbidden) where
   unfoldable pub uses_of_form : Form → Place → Uses
   uses_of_form form place = record {
-    value = λ s. trees.value_of_form form place s >>= λ x. allowed (forbids x.code) place x;
-    callee = λ s. trees.callee_of_form form place s >>= λ it. allowed (forbidden_callee forbids it.called) place it;
+    value = λ s. trees.value_of_form form place s >>= λ x. allowed (against f x.code) place x;
+    callee = λ s. trees.callee_of_form form place s >>= λ it. allowed (against_called f it.called) place it;
   }
 
   unfoldable pub uses : Expr → Uses
