@@ -171,5 +171,5 @@ component_at position one = record { made = made.Component position; parameter =
 unfoldable pub target_of : List Component → Scope → List ℕ → List Attribute → Option Target
 target_of components s name attributes =
     if bytes_eq name (codes "CascadingValue") then
-      option_map (provider attributes) (bound_to (bound_to (given_in attributes (codes "Value")) expression_in) (type_if_fine s))
+    option_map (provider attributes) (bound_to (bound_to (given_in attributes (codes "Value")) expression_in) (type_if_fine s))
     else bound_to (component_named components name) (λ one. option_map (λ position. component_at position one) (position_from components name 0))

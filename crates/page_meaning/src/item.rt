@@ -60,10 +60,7 @@ pub enum Worn {
 #[derive(Debug, Drop)]
 pub enum Made {
     Component(u32),
-    Provider {
-        cs_type: CsType,
-        name: Option<Txt>,
-    },
+    Provider { cs_type: CsType, name: Option<Txt> },
 }
 
 /// A value for the parameter of a component at a place.

@@ -22,7 +22,7 @@ use Rattle.razor_rules.specs.Scopes.{Home}
 use Rattle.razor_rules.specs.Values.{content}
 use Rattle.razor_rules.specs.Elements.{element_rules}
 use Rattle.razor_rules.proofs.TemplateLaws.{part_law}
-use Rattle.cs_forbidden.proofs.Laws.{uses_law, form_law}
+use Rattle.cs_forbidden.proofs.FormLaws.{uses_law, form_law}
 use Rattle.cs_rules.specs.Trees.{value_of_form}
 use Rattle.cs_rules.specs.Names.{meant_by, meant}
 

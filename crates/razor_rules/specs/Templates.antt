@@ -90,9 +90,9 @@ step_rules a g = found (value g a)
 abbrev pub for_rules : Option Stmt → Option Expr → Option Expr → Part → Ground → List Broken
 for_rules start test step body g =
     found_then (started start g) (λ inner.
-      flat_map (λ a. test_rules a inner) (option_list test)
-      ++ flat_map (λ a. step_rules a inner) (option_list step)
-      ++ body.rules (in_loop inner))
+    flat_map (λ a. test_rules a inner) (option_list test)
+    ++ flat_map (λ a. step_rules a inner) (option_list step)
+    ++ body.rules (in_loop inner))
 
 -- the scope in the body of a `foreach`
 abbrev pub item_ground : Ident → Expr → Part → Ground → Judged Ground
