@@ -14,8 +14,9 @@ use Rattle.razor_ast.specs.declared.attribute.AttributeKind.TheVariants as ak
 use Rattle.razor_ast.specs.declared.attribute.ValuePart.{ValuePart}
 use Rattle.razor_ast.specs.declared.attribute.ValuePart.TheVariants as part
 use Rattle.razor_rules.specs.Elements.{own_field, bound_attribute, bound_event}
-use Rattle.page_meaning.specs.declared.item.Worn.{Worn}
-use Rattle.page_meaning.specs.declared.item.Worn.TheVariants as worn
+use Rattle.frame_core.specs.declared.item_attribute.ItemAttribute.{ItemAttribute}
+use Rattle.frame_core.specs.declared.item_attribute.ItemValue.{ItemValue}
+use Rattle.frame_core.specs.declared.item_attribute.ItemValue.TheVariants as stands
 use Rattle.page_meaning.specs.Drawing.{Draws, done, run, pay, begun, bytes_of, ◌>>=◌}
 use Rattle.page_meaning.specs.Stages.{Stage, place_at, value, code_value, known}
 use Rattle.page_meaning.specs.Callbacks.{callback}
@@ -63,21 +64,24 @@ mixed_text stage s parts = do
   said ← parts_text stage s parts
   some_shown (v.Text said)
 
+abbrev pub named : ℕ → List ℕ → ItemValue → ItemAttribute
+named number name value = record { number = number; name = name; value = value }
+
 -- an attribute with such a text, if it has one
-abbrev pub with_text : ℕ → List ℕ → Option (List ℕ) → Draws (List Worn)
+abbrev pub with_text : ℕ → List ℕ → Option (List ℕ) → Draws (List ItemAttribute)
 with_text number name None = done []
 with_text number name (Some said) = do
   here ← begun (bytes_of name + bytes_of said)
-  done (worn.Attribute number name said ∷ [])
+  done (named number name (stands.Text said) ∷ [])
 
--- a handler: its receiver, its number and its captures
-abbrev pub with_handler : ℕ → List ℕ → ℕ × ℕ × List Value → Draws (List Worn)
+-- a handler: its receiver, its number and its captures; it has no id yet
+abbrev pub with_handler : ℕ → List ℕ → ℕ × ℕ × List Value → Draws (List ItemAttribute)
 with_handler number name it = do
   here ← begun (bytes_of name)
-  done (worn.Handler number name it.0 it.1 it.2 ∷ [])
+  done (named number name (stands.Handler (record { id = 0; who = it.0; place = it.1; captures = it.2 })) ∷ [])
 
 -- the handler that a value is; none where it is null
-abbrev pub handler_of : ℕ → List ℕ → Value → Draws (List Worn)
+abbrev pub handler_of : ℕ → List ℕ → Value → Draws (List ItemAttribute)
 handler_of number name v.Null = done []
 handler_of number name x = do
   it ← known (callback_of x)
@@ -85,15 +89,15 @@ handler_of number name x = do
 
 -- attributes and handlers that were made, and the key
 pub record Dress : Type 0 where
-  pub worn : List Worn
+  pub worn : List ItemAttribute
   pub key : Value
 
-abbrev pub dress : List Worn → Value → Dress
+abbrev pub dress : List ItemAttribute → Value → Dress
 dress worn key = record { worn = worn; key = key }
 
 module _ (stage : Stage) (s : Scope) (element : List ℕ) (attributes : List Attribute) where
   -- a bound field: an attribute that shows it, and a handler that reads it from a text
-  unfoldable pub bound : ℕ → List ℕ → Draws (List Worn)
+  unfoldable pub bound : ℕ → List ℕ → Draws (List ItemAttribute)
   bound number name = do
     paid ← pay
     field ← known (own_field stage.home.members name)
@@ -104,13 +108,13 @@ module _ (stage : Stage) (s : Scope) (element : List ℕ) (attributes : List Att
     second ← with_handler (number + 1) (bound_event attributes) (stage.around.who, place_at stage (number + 1), [])
     done (first ++ second)
 
-  unfoldable pub mixed : ℕ → List ℕ → List ValuePart → Draws (List Worn)
+  unfoldable pub mixed : ℕ → List ℕ → List ValuePart → Draws (List ItemAttribute)
   mixed number name parts = do
     paid ← pay
     said ← mixed_text stage s parts
     with_text number name said
 
-  unfoldable pub event : ℕ → List ℕ → Expr → Draws (List Worn)
+  unfoldable pub event : ℕ → List ℕ → Expr → Draws (List ItemAttribute)
   event number name a = do
     paid ← pay
     x ← callback stage s number a

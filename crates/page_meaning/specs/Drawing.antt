@@ -6,11 +6,12 @@ use Rattle.cs_meaning.specs.Outcome.{Outcome, charged}
 use Rattle.page_meaning.specs.declared.fault.PageFault.{PageFault}
 use Rattle.page_meaning.specs.declared.fault.PageFault.TheVariants.{Code, PageTooLarge}
 
--- the state of the code, the items begun so far, and the bytes of their names and texts
+-- the state of the code; the items begun so far, the bytes of their names and texts, and the components among them
 pub record Drawing : Type 0 where
   pub state : State
   pub items : ℕ
   pub bytes : ℕ
+  pub components : ℕ
 
 abbrev pub with_state : State → Drawing → Drawing
 with_state s d = record d { state = s }
@@ -67,3 +68,7 @@ begun bytes d =
 -- the same for an element, a text or markup, which lies at most 1,000 deep in the page
 unfoldable pub begun_at : ℕ → ℕ → Draws (Unit {0})
 begun_at depth bytes d = if nat_lt 1000 depth then faults PageTooLarge d else begun bytes d
+
+-- the place of a component among those of the rendering
+unfoldable pub next_component : Draws ℕ
+next_component d = gives d.components (record d { components = d.components + 1 })

@@ -12,11 +12,12 @@ use Rattle.razor_ast.specs.declared.component.Component.{Component}
 use Rattle.razor_rules.specs.Programs.{home_of}
 use Rattle.page_meaning.specs.declared.fault.PageFault.{PageFault}
 use Rattle.page_meaning.specs.declared.fault.PageFault.TheVariants as fault
-use Rattle.page_meaning.specs.declared.item.Item.{Item}
-use Rattle.page_meaning.specs.declared.item.Item.TheOpen.{Item-F}
-use Rattle.page_meaning.specs.declared.item.Item.TheFolds.{fold-Item}
-use Rattle.page_meaning.specs.declared.item.Worn.{Worn}
-use Rattle.page_meaning.specs.declared.item.Worn.TheVariants as worn
+use Rattle.frame_core.specs.declared.item.Item.{Item}
+use Rattle.frame_core.specs.declared.item.Item.TheOpen.{Item-F}
+use Rattle.frame_core.specs.declared.item.Item.TheFolds.{fold-Item}
+use Rattle.frame_core.specs.declared.item_attribute.ItemAttribute.{ItemAttribute}
+use Rattle.frame_core.specs.declared.item_attribute.ItemValue.{ItemValue}
+use Rattle.frame_core.specs.declared.item_attribute.ItemValue.TheVariants as stands
 use Rattle.page_meaning.specs.Drawing.{Drawn}
 use Rattle.page_meaning.specs.Drawing as drawing
 use Rattle.page_meaning.specs.Initial.{initial_fields, fields_of, no_fields}
@@ -29,15 +30,18 @@ pub record Dressed : Type 0 where
   pub given : ℕ
 
 -- one attribute or handler more: a handler gets the next id
-abbrev pub also : Worn → Dressed → Dressed
-also (worn.Attribute number name text) it = record { attributes = insert_entry by_characters it.attributes name text; handlers = it.handlers; given = it.given }
-also (worn.Handler number name who place captures) it = record { attributes = it.attributes; handlers = insert_entry by_characters it.handlers name (it.given + 1); given = it.given + 1 }
+abbrev pub also_value : ItemValue → List ℕ → Dressed → Dressed
+also_value (stands.Text text) name it = record { attributes = insert_entry by_characters it.attributes name text; handlers = it.handlers; given = it.given }
+also_value (stands.Handler handler) name it = record { attributes = it.attributes; handlers = insert_entry by_characters it.handlers name (it.given + 1); given = it.given + 1 }
 
-abbrev pub all_worn : List Worn → Dressed → Dressed
+abbrev pub also : ItemAttribute → Dressed → Dressed
+also one it = also_value one.value one.name it
+
+abbrev pub all_worn : List ItemAttribute → Dressed → Dressed
 all_worn [] it = it
 all_worn (one ∷ others) it = all_worn others (also one it)
 
-abbrev pub dressed : ℕ → List Worn → Dressed
+abbrev pub dressed : ℕ → List ItemAttribute → Dressed
 dressed given worn = all_worn worn (record { attributes = []; handlers = []; given = given })
 
 -- nodes, and how many handlers were given an id so far
@@ -74,8 +78,8 @@ abbrev pub shown_layer : ℕ → Item-F Shows → Shows
 shown_layer born (Item-F.Element number name key worn children) given = in_element born name (dressed given worn) (all_shown children (dressed given worn).given)
 shown_layer born (Item-F.Text number text) given = Some (shown (roll-Node (node.Text born text) ∷ []) given)
 shown_layer born (Item-F.Markup number text) given = Some (shown (roll-Node (node.Markup born text) ∷ []) given)
-shown_layer born (Item-F.Component number made key parameters) given = None
-shown_layer born (Item-F.Region number key items) given = all_shown items given
+shown_layer born (Item-F.Component number order made key parameters) given = None
+shown_layer born (Item-F.Region number key children) given = all_shown children given
 
 abbrev pub shown_item : ℕ → Item → Shows
 shown_item born = fold-Item Shows (shown_layer born)

@@ -9,7 +9,7 @@ use Rattle.razor_ast.specs.declared.component.Component.{Component}
 use Rattle.razor_rules.specs.Programs.{home_of}
 use Rattle.razor_rules.specs.Scopes.{Home, member_scope}
 use Rattle.page_meaning.specs.declared.fault.PageFault.TheVariants as fault
-use Rattle.page_meaning.specs.declared.item.Item.{Item}
+use Rattle.frame_core.specs.declared.item.Item.{Item}
 use Rattle.page_meaning.specs.Drawing.{Drawing, Drawn, Draws, faults, stuck}
 use Rattle.page_meaning.specs.Stages.{Stage, Show, over_locals}
 use Rattle.page_meaning.specs.Placed.{Placed, Template, members_placed, bodies_in, template_at}
@@ -55,7 +55,7 @@ module _ (components : List Component) (parameters : Fields) where
 
 -- nothing is made yet, over these own fields of all instances and 1,000,000 units
 abbrev pub at_first : Fields → Drawing
-at_first fields = record { state = state [] fields [] 1000000; items = 0; bytes = 0 }
+at_first fields = record { state = state [] fields [] 1000000; items = 0; bytes = 0; components = 0 }
 
 -- the items of an instance of the component at a position, with these own fields and parameters of all instances; or the first fault
 abbrev pub items : List Component → Fields → Fields → ℕ → Component → ℕ → ℕ → Drawn (List Item)

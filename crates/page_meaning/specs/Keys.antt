@@ -6,7 +6,7 @@ use Rattle.cs_ast.specs.declared.value.Value.TheVariants as v
 use Rattle.cs_meaning.specs.Kinds.{is_null}
 use Rattle.cs_meaning.specs.Equality.{is_same}
 use Rattle.page_meaning.specs.declared.fault.PageFault.TheVariants.{DuplicateKey}
-use Rattle.page_meaning.specs.declared.item.Item.{Item, Item-F, out-Item}
+use Rattle.frame_core.specs.declared.item.Item.{Item, Item-F, out-Item}
 use Rattle.page_meaning.specs.Drawing.{Draws, gives, faults}
 
 -- a key that isn't null, by the number of its item
@@ -17,8 +17,8 @@ abbrev pub key_level : Item-F Item → Option (ℕ × Value)
 key_level (Item-F.Element number name key attributes children) = if_key number key
 key_level (Item-F.Text number text) = None
 key_level (Item-F.Markup number text) = None
-key_level (Item-F.Component number made key parameters) = if_key number key
-key_level (Item-F.Region number key items) = if_key number key
+key_level (Item-F.Component number order made key parameters) = if_key number key
+key_level (Item-F.Region number key children) = if_key number key
 
 -- the key of an item, if it has one
 abbrev pub key_of : Item → Option (ℕ × Value)

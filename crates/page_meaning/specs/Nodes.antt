@@ -28,8 +28,8 @@ use Rattle.cs_rules.specs.Trees.{value_in, statement}
 use Rattle.razor_ast.specs.declared.attribute.Attribute.{Attribute}
 use Rattle.razor_rules.specs.Templates.{Level}
 use Rattle.page_meaning.specs.declared.fault.PageFault.TheVariants as fault
-use Rattle.page_meaning.specs.declared.item.Item.{Item}
-use Rattle.page_meaning.specs.declared.item.Item.TheVariants as item
+use Rattle.frame_core.specs.declared.item.Item.{Item}
+use Rattle.frame_core.specs.declared.item.Item.TheVariants as item
 use Rattle.page_meaning.specs.Drawing.{Draws, faults, stuck, done, run, pay, begun_at, bytes_of, with_state, and_then, ◌>>=◌}
 use Rattle.page_meaning.specs.Stages.{Stage, deeper, Output, output, if_fine, code_value, value, known}
 use Rattle.page_meaning.specs.Keys.{siblings, key_of_turn}

@@ -29,8 +29,8 @@ use Rattle.razor_rules.specs.Scopes.{Home, member_scope}
 use Rattle.razor_rules.specs.TemplateDeeds.{if_any, expression_does, statement_does, attributes_do}
 use Rattle.razor_rules.specs.Tags.{context_in, context_name}
 use Rattle.razor_rules.specs.Templates.{option_list}
-use Rattle.page_meaning.specs.declared.item.Item.{Item}
-use Rattle.page_meaning.specs.declared.item.Supplied.{Supplied}
+use Rattle.frame_core.specs.declared.item.Item.{Item}
+use Rattle.frame_core.specs.declared.item.ItemParameter.{ItemParameter}
 use Rattle.page_meaning.specs.Captures.{used, with_captured}
 use Rattle.page_meaning.specs.Drawing.{Draws, stuck, done, pay, ◌>>=◌}
 use Rattle.page_meaning.specs.Stages.{Stage, Output, output, joined, if_fine}
@@ -164,7 +164,7 @@ tag_placed None parts home s number place outer = []
 tag_placed (Some around) parts home s number place outer = placed_inside (inside around parts) around home s number place outer
 
 -- what the tags of fragments give, one after another
-abbrev pub tag_gifts : List Tag → Target → Stage → Scope → Draws (List Supplied)
+abbrev pub tag_gifts : List Tag → Target → Stage → Scope → Draws (List ItemParameter)
 tag_gifts [] target stage s = done []
 tag_gifts (one ∷ others) target stage s = do
   paid ← pay
@@ -172,7 +172,7 @@ tag_gifts (one ∷ others) target stage s = do
   rest ← tag_gifts others target stage s
   done (first ∷ rest)
 
-abbrev pub gifts_inside : Inside → ℕ → Target → Stage → Scope → Draws (List Supplied)
+abbrev pub gifts_inside : Inside → ℕ → Target → Stage → Scope → Draws (List ItemParameter)
 gifts_inside (tags_of tags) number target stage s = tag_gifts tags target stage s
 gifts_inside (loose content) number target stage s = do
   first ← tags.fragment_gift stage s target (codes "ChildContent") number (used content.does s)

@@ -34,7 +34,7 @@ use Rattle.razor_rules.specs.Parameters as tags
 use Rattle.razor_rules.specs.Scopes.{Home, member_scope, with_arguments, with_result}
 use Rattle.razor_rules.specs.TemplateDeeds.{expression_does}
 use Rattle.razor_rules.specs.Values.{Level, lambda_scope}
-use Rattle.page_meaning.specs.declared.item.Item.{Item}
+use Rattle.frame_core.specs.declared.item.Item.{Item}
 use Rattle.page_meaning.specs.Captures.{used, with_captured}
 use Rattle.page_meaning.specs.Drawing.{Draws}
 use Rattle.page_meaning.specs.Stages.{Stage}

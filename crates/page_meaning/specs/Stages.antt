@@ -11,7 +11,7 @@ use Rattle.cs_rules.specs.Judged.{Judged, fine, breaks}
 use Rattle.cs_rules.specs.Trees.{value_in}
 use Rattle.razor_rules.specs.Numbers.{number_at}
 use Rattle.razor_rules.specs.Scopes.{Home}
-use Rattle.page_meaning.specs.declared.item.Item.{Item}
+use Rattle.frame_core.specs.declared.item.Item.{Item}
 use Rattle.page_meaning.specs.Drawing.{Draws, stuck, done, run, with_state, and_then}
 
 -- what a fragment shows at a depth in the page, by its receiver, its number and its captures

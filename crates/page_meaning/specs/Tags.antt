@@ -23,13 +23,13 @@ use Rattle.razor_ast.specs.declared.attribute.Given.{Given}
 use Rattle.razor_ast.specs.declared.attribute.Given.TheVariants as given
 use Rattle.razor_ast.specs.declared.component.Component.{Component}
 use Rattle.razor_rules.specs.Parameters.{is_text, component_named}
-use Rattle.page_meaning.specs.declared.item.Item.TheVariants as item
-use Rattle.page_meaning.specs.declared.item.Made.{Made}
-use Rattle.page_meaning.specs.declared.item.Made.TheVariants as made
-use Rattle.page_meaning.specs.declared.item.Supplied.{Supplied}
+use Rattle.frame_core.specs.declared.item.Item.TheVariants as item
+use Rattle.frame_core.specs.declared.made.Made.{Made}
+use Rattle.frame_core.specs.declared.made.Made.TheVariants as made
+use Rattle.frame_core.specs.declared.item.ItemParameter.{ItemParameter}
 use Rattle.page_meaning.specs.Captures.{values_of}
 use Rattle.page_meaning.specs.Callbacks.{callback}
-use Rattle.page_meaning.specs.Drawing.{Draws, stuck, done, pay, begun, ◌>>=◌}
+use Rattle.page_meaning.specs.Drawing.{Draws, stuck, done, pay, begun, next_component, ◌>>=◌}
 use Rattle.page_meaning.specs.Stages.{Stage, Output, output, place_at, value, known}
 
 abbrev pub parameter_or : List ℕ → MemberKind → ℕ → (ℕ → Option (ℕ × CsType)) → Option (ℕ × CsType)
@@ -69,19 +69,19 @@ given_value stage s number cs_type given.Nothing = done (v.Text [])
 given_value stage s number cs_type (given.Text place said a) = if is_text cs_type then done (v.Text said) else if_said a (supplied_value stage s number cs_type)
 given_value stage s number cs_type (given.Value a) = supplied_value stage s number cs_type a
 
-abbrev pub supplied : ℕ → Value → Supplied
+abbrev pub supplied : ℕ → Value → ItemParameter
 supplied place x = record { place = place; value = x }
 
 -- what a tag gives, and its key
 pub record Gifts : Type 0 where
-  pub supplied : List Supplied
+  pub supplied : List ItemParameter
   pub key : Value
 
-abbrev pub gifts : List Supplied → Value → Gifts
+abbrev pub gifts : List ItemParameter → Value → Gifts
 gifts supplied key = record { supplied = supplied; key = key }
 
 module _ (stage : Stage) (s : Scope) (target : Target) where
-  abbrev pub parameter_gift : ℕ → List ℕ → Given → Draws (List Supplied)
+  abbrev pub parameter_gift : ℕ → List ℕ → Given → Draws (List ItemParameter)
   parameter_gift number name given = do
     paid ← pay
     it ← known (target.parameter name)
@@ -106,20 +106,21 @@ module _ (stage : Stage) (s : Scope) (target : Target) where
     done (gifts (first.supplied ++ rest.supplied) rest.key)
 
   -- a fragment of the present instance for a parameter, over the values of these locals
-  abbrev pub fragment_gift : List ℕ → ℕ → List Named → Draws Supplied
+  abbrev pub fragment_gift : List ℕ → ℕ → List Named → Draws ItemParameter
   fragment_gift name number locals = do
     it ← known (target.parameter name)
     captures ← values_of locals
     done (supplied it.0 (v.Fragment stage.around.who (place_at stage number) captures))
 
 -- the component item of a tag, with what its attributes and its content give
-abbrev pub component : ℕ → Stage → Scope → Target → List Attribute → Draws (List Supplied) → Draws Output
+abbrev pub component : ℕ → Stage → Scope → Target → List Attribute → Draws (List ItemParameter) → Draws Output
 component number stage s target attributes content = do
   paid ← pay
   here ← begun 0
+  order ← next_component
   first ← attribute_gifts stage s target attributes v.Null
   more ← content
-  done (output (item.Component number target.made first.key (first.supplied ++ more) ∷ []))
+  done (output (item.Component number order target.made first.key (first.supplied ++ more) ∷ []))
 
 -- the places of the parameters of the built-in provider, whose value is of a type
 abbrev pub provider_parameter : CsType → List ℕ → Option (ℕ × CsType)

@@ -1,11 +1,9 @@
 //! What pages mean: the items that one rendering of an instance makes, under a budget of units, or the fault that it meets; and
 //! the page that they show.
 //!
-//! There are types and definitions alone here, over the trees of components with their names. Nothing here runs.
+//! There are definitions alone here, over the trees of components with their names, and the type of faults. Nothing here runs.
 #![tactic(auto)]
 
 mod fault;
-mod item;
 
 pub use fault::PageFault;
-pub use item::{Item, Made, Supplied, Worn};
