@@ -1,0 +1,13 @@
+pub mod Drawing
+pub mod Keys
+pub mod Captures
+pub mod Stages
+pub mod Callbacks
+pub mod Attributes
+pub mod Nodes
+pub mod Tags
+pub mod Placed
+pub mod Parts
+pub mod Items
+pub mod Initial
+pub mod Fresh

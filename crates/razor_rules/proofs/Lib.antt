@@ -1,0 +1,2 @@
+mod TemplateLaws
+mod Examples
