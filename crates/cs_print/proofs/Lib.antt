@@ -1,0 +1,9 @@
+pub mod PrintedLaws
+pub mod CodeKinds
+pub mod QuoteLemmas
+pub mod LayLemmas
+pub mod Reads
+pub mod TypesAgain
+pub mod ExpressionForms
+pub mod ExpressionLists
+pub mod ExpressionsAgain

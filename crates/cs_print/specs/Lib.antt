@@ -1,0 +1,4 @@
+pub mod Alike
+pub mod Printed
+pub mod Layout
+pub mod Again

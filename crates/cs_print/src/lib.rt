@@ -1,0 +1,2 @@
+//! Prints C# code.
+#![tactic(auto)]
