@@ -11,7 +11,7 @@ use Rattle.cs_token.specs.Words.{spelling}
 use Rattle.cs_print.specs.Printed.{Kinds}
 
 -- a sign that stands by itself: no brace, and no bound of a part of an interpolated text
-unfoldable pub is_single : Sign → Bool
+abbrev pub is_single : Sign → Bool
 is_single s.OpenBrace = false
 is_single s.CloseBrace = false
 is_single s.InterpolationStart = false

@@ -27,7 +27,7 @@ use Rattle.cs_grammar.specs.Expressions.{node, Spells, Arguments, Values, WithPa
 use Rattle.cs_grammar.specs.Expressions as g
 use Rattle.cs_grammar.specs.Tables.{operator, level, left_level, right_level, unary_operator, literal, static_type}
 use Rattle.cs_grammar.specs.Tokens.{IsSign, IsWord, IsName, ident}
-use Rattle.cs_print.specs.Alike.{Alike, AlikeKinds, AlikeTexts, AlikeParts, Each}
+use Rattle.cs_print.specs.Alike.{Alike, AlikeKinds}
 use Rattle.cs_print.specs.Alike as al
 use Rattle.cs_print.specs.Printed.{Kinds, Printed, at_level, whole, postfix, in_round, in_braces, listed, joined, of_type, operator_sign, unary_sign, static_word, truth_word, type_kinds, printed, printed_kind, part_kinds, text_kinds}
 use Rattle.cs_print.specs.Printed as p
@@ -35,7 +35,7 @@ use Rattle.cs_print.proofs.PrintedLaws as law
 use Rattle.cs_print.proofs.CodeKinds.{is_single, IsCode, AreParts, IsLexeme}
 use Rattle.cs_print.proofs.CodeKinds as c
 use Rattle.cs_print.proofs.LayLemmas.{Are}
-use Rattle.cs_print.proofs.Reads.{Prints, prints_as, first, single, parted, middle, ended, signed, worded, named, up_to}
+use Rattle.cs_print.proofs.ReadLemmas.{Prints, prints_as, first, single, parted, middle, ended, signed, worded, named, up_to}
 use Rattle.cs_print.proofs.TypesAgain.{TypeAgain, Writes, Bracketed, bracketed, of_type_code}
 
 -- an expression like this one is spelled at a level
@@ -58,7 +58,7 @@ pub made : (q : Place) (kind : ExprKind) (x : Printed) → printed_kind kind ≡
 made q kind x e h = subst (λ y. Again (node q kind) y) (sym (law.printed_law (node q kind) ∙ e)) h
 
 -- in brackets
-bracketed_code : (ks : Kinds) → IsCode ks → IsCode (in_round ks)
+pub bracketed_code : (ks : Kinds) → IsCode ks → IsCode (in_round ks)
 bracketed_code ks code = signed s.OpenRound _ refl (up_to ks s.CloseRound [] refl code c.none)
 
 abbrev AtLevel : ℕ → Expr → Kinds → Type 0
@@ -93,7 +93,7 @@ alone q kind token e code spells = made q kind (postfix (token ∷ [])) e (recor
 })
 
 pub number_again : (q : Place) (n : ℤ) → IsLexeme (k.Number n) → ExprAgain (node q (ek.Int n))
-number_again q n is = alone q (ek.Int n) (k.Number n) (law.expr_int n) (subst (λ m. IsCode (k.Number m ∷ [])) (sym is.1.0) (c.simple _ [] (c.number is.0 is.1.1) c.none)) (λ l t rest has. g.number l n t rest has)
+number_again q n is = alone q (ek.Int n) (k.Number n) (law.expr_int n) (subst (λ m. IsCode (k.Number m ∷ [])) (sym is.1) (c.simple _ [] (c.number is.0 is.2) c.none)) (λ l t rest has. g.number l n t rest has)
 
 pub text_again : (q : Place) (x : List ℕ) → ExprAgain (node q (ek.Text x))
 text_again q x = alone q (ek.Text x) (k.Text x) (law.expr_text x) (c.simple _ [] (c.text x) c.none) (λ l t rest has. g.text l x t rest has)
@@ -118,18 +118,22 @@ literal_again q _ kind e = absurd (cc)
 
 operator_is : (op : BinaryOp) → operator (operator_sign op) ≡ Some op
 unfolding operator operator_sign
+operator_is bo.Or = refl
 operator_is _ = refl
 
 operator_single : (op : BinaryOp) → is_single (operator_sign op) ≡ true
-unfolding is_single operator_sign
+unfolding operator_sign
+operator_single bo.Or = refl
 operator_single _ = refl
 
 unary_is : (op : UnaryOp) → unary_operator (unary_sign op) ≡ Some op
 unfolding unary_operator unary_sign
+unary_is uo.Not = refl
 unary_is _ = refl
 
 unary_single : (op : UnaryOp) → is_single (unary_sign op) ≡ true
-unfolding is_single unary_sign
+unfolding unary_sign
+unary_single uo.Not = refl
 unary_single _ = refl
 
 binary_form : (q : Place) (op : BinaryOp) (a b : Expr) → ExprAgain a → ExprAgain b → Again (node q (ek.Binary op a b)) (p.binary op (printed a) (printed b))
@@ -198,16 +202,16 @@ conditional_form : (q : Place) (a b d : Expr) → ExprAgain a → ExprAgain b �
 unfolding p.conditional
 conditional_form q x y z h i j =
     let test = at 1 x (printed x) h in
-    let yes = all y i in
-    let no = all z j in
+    let holds = all y i in
+    let fails = all z j in
     record {
-      code = up_to _ s.Question _ refl test.code (up_to _ s.Colon _ refl yes.code no.code);
+      code = up_to _ s.Question _ refl test.code (up_to _ s.Colon _ refl holds.code fails.code);
       reads = λ l ts rest low are.
           let m = middle _ (k.Sign s.Question) _ ts rest are in
           let n = middle _ (k.Sign s.Colon) _ m.us rest m.behind in
           let one = test.reads ts (m.t ∷ m.us) m.front in
-          let two = yes.reads m.us (n.t ∷ n.us) n.front in
-          let three = no.reads n.us rest n.behind in
+          let two = holds.reads m.us (n.t ∷ n.us) n.front in
+          let three = fails.reads n.us rest n.behind in
           record {
             place = one.place;
             tree = node one.place (ek.Conditional one.tree two.tree three.tree);
@@ -228,8 +232,8 @@ member_form q r x n is h =
     record {
       code = up_to _ s.Dot _ refl inner.code (named n [] is c.none);
       reads = λ l ts rest low are.
-          let m = middle _ (k.Sign s.Dot) (k.Name n ∷ []) ts rest are in
-          single (k.Name n) m.us rest (λ xs. Are _ ts (m.t ∷ xs) → Reads l (node q (ek.Member x (al.named r n))) ts rest) m.behind (λ t has front.
+          let m = middle (at_level 13 (printed x)) (k.Sign s.Dot) (k.Name n ∷ []) ts rest are in
+          single (k.Name n) m.us rest (λ xs. Are (at_level 13 (printed x)) ts (m.t ∷ xs) → Reads l (node q (ek.Member x (al.named r n))) ts rest) m.behind (λ t has front.
           let i = inner.reads ts (m.t ∷ t ∷ rest) front in
           record {
             place = i.place;
@@ -249,8 +253,8 @@ null_member_form q r x n is h =
     record {
       code = up_to _ s.QuestionDot _ refl inner.code (named n [] is c.none);
       reads = λ l ts rest low are.
-          let m = middle _ (k.Sign s.QuestionDot) (k.Name n ∷ []) ts rest are in
-          single (k.Name n) m.us rest (λ xs. Are _ ts (m.t ∷ xs) → Reads l (node q (ek.NullMember x (al.named r n))) ts rest) m.behind (λ t has front.
+          let m = middle (at_level 12 (printed x)) (k.Sign s.QuestionDot) (k.Name n ∷ []) ts rest are in
+          single (k.Name n) m.us rest (λ xs. Are (at_level 12 (printed x)) ts (m.t ∷ xs) → Reads l (node q (ek.NullMember x (al.named r n))) ts rest) m.behind (λ t has front.
           let i = inner.reads ts (m.t ∷ t ∷ rest) front in
           record {
             place = i.place;
@@ -288,6 +292,7 @@ index_again q x y h i = made q (ek.Index x y) _ (law.expr_index x y) (index_form
 
 static_is : (owner : StaticType) → static_type (static_word owner) ≡ Some owner
 unfolding static_type static_word
+static_is sy.Int = refl
 static_is _ = refl
 
 static_form : (q r : Place) (owner : StaticType) (n : List ℕ) → IsLexeme (k.Name n) → Again (node q (ek.Static owner (al.named r n))) (p.static owner n)

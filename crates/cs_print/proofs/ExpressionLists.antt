@@ -18,7 +18,7 @@ use Rattle.cs_token.specs.declared.token.Word.TheVariants as w
 use Rattle.cs_grammar.specs.Expressions.{node, with_part, Spells, Arguments, Values, WithParts, TextParts}
 use Rattle.cs_grammar.specs.Expressions as g
 use Rattle.cs_grammar.specs.Tokens.{IsSign, IsName, ident}
-use Rattle.cs_print.specs.Alike.{Alike, AlikeKinds, AlikeTexts, AlikeParts, Each}
+use Rattle.cs_print.specs.Alike.{Alike, AlikeKinds, AlikeAll, AlikeAllTexts, AlikeAllParts}
 use Rattle.cs_print.specs.Alike as al
 use Rattle.cs_print.specs.Printed.{Kinds, Printed, at_level, whole, in_round, in_braces, in_hole, listed, behind_commas, joined, of_type, given, type_kinds, printed, part_kinds, text_kinds}
 use Rattle.cs_print.specs.Printed as p
@@ -27,7 +27,7 @@ use Rattle.cs_print.proofs.CodeKinds.{begins_part, IsCode, AreParts, IsLexeme}
 use Rattle.cs_print.proofs.CodeKinds as c
 use Rattle.cs_print.proofs.LayLemmas.{Are}
 use Rattle.cs_print.proofs.LayLemmas as r
-use Rattle.cs_print.proofs.Reads.{Prints, prints_as, first, single, parted, middle, ended, signed, worded, named, up_to}
+use Rattle.cs_print.proofs.ReadLemmas.{Prints, prints_as, first, single, parted, middle, ended, signed, worded, named, up_to}
 use Rattle.cs_print.proofs.TypesAgain.{TypeAgain, Bracketed, bracketed, of_type_code}
 use Rattle.cs_print.proofs.ExpressionForms.{Reads, Again, ExprAgain, made, at, all, bracketed_code}
 
@@ -36,7 +36,7 @@ use Rattle.cs_print.proofs.ExpressionForms.{Reads, Again, ExprAgain, made, at, a
 pub record ReadsValues (bs : List Expr) (ts rest : List Token) : Type 0 where
   pub trees : List Expr
   pub spelled : Values ts rest trees
-  pub alike : Each Alike bs trees
+  pub alike : AlikeAll bs trees
 
 abbrev pub value_kinds : List Expr → List Kinds
 value_kinds bs = map whole (map printed bs)
@@ -51,7 +51,7 @@ one_value b h =
       code = x.code;
       reads = λ ts rest are.
           let i = x.reads ts rest are in
-          record { trees = i.tree ∷ []; spelled = g.one_value i.place ts rest i.tree i.spelled; alike = al.more b i.tree [] [] i.alike al.none };
+          record { trees = i.tree ∷ []; spelled = g.one_value i.place ts rest i.tree i.spelled; alike = al.one_value b i.tree [] [] i.alike al.no_value };
     })
 
 pub more_values : (b other : Expr) (bs : List Expr) → ExprAgain b → ValuesAgain (other ∷ bs) → ValuesAgain (b ∷ other ∷ bs)
@@ -66,7 +66,7 @@ more_values b other bs h others =
           record {
             trees = i.tree ∷ j.trees;
             spelled = g.more_values i.place m.t ts m.us rest i.tree j.trees i.spelled m.is j.spelled;
-            alike = al.more b i.tree (other ∷ bs) j.trees i.alike j.alike;
+            alike = al.one_value b i.tree (other ∷ bs) j.trees i.alike j.alike;
           };
     }
 
@@ -75,7 +75,7 @@ more_values b other bs h others =
 pub record ReadsArguments (bs : List Expr) (ts rest : List Token) : Type 0 where
   pub trees : List Expr
   pub spelled : Arguments ts rest trees
-  pub alike : Each Alike bs trees
+  pub alike : AlikeAll bs trees
 
 abbrev pub ArgumentsAgain : List Expr → Type 0
 ArgumentsAgain bs = Prints (ReadsArguments bs) (listed (value_kinds bs) ++ k.Sign s.CloseRound ∷ [])
@@ -84,7 +84,7 @@ pub no_arguments : ArgumentsAgain []
 no_arguments = record {
   code = signed s.CloseRound [] refl c.none;
   reads = λ ts rest are. single (k.Sign s.CloseRound) ts rest (λ xs. ReadsArguments [] xs rest) are (λ t is.
-      record { trees = []; spelled = g.no_argument t rest is; alike = al.none });
+      record { trees = []; spelled = g.no_argument t rest is; alike = al.no_value });
 }
 
 pub some_arguments : (bs : List Expr) → ValuesAgain bs → ArgumentsAgain bs
@@ -141,7 +141,7 @@ new_again q i n bs is others = made q (ek.New (al.named i n) bs) _ (law.expr_new
 pub record ReadsParts (parts : List WithPart) (ts rest : List Token) : Type 0 where
   pub trees : List WithPart
   pub spelled : WithParts ts rest trees
-  pub alike : Each AlikeParts parts trees
+  pub alike : AlikeAllParts parts trees
 
 abbrev pub PartsAgain : List WithPart → Type 0
 PartsAgain parts = Prints (ReadsParts parts) (listed (map part_kinds parts))
@@ -164,7 +164,7 @@ one_part i n b is h =
           record {
             trees = with_part m n j.tree ∷ [];
             spelled = g.one_part n j.place m t vs rest j.tree has sets j.spelled;
-            alike = al.more _ _ [] [] (al.part n i m.place b j.tree j.alike) al.none;
+            alike = al.one_part _ _ [] [] (al.part n i m.place b j.tree j.alike) al.no_part;
           }));
     })
 
@@ -184,7 +184,7 @@ more_parts i n b other parts is h others =
           record {
             trees = with_part m n j.tree ∷ z.trees;
             spelled = g.more_parts n j.place m t y.t vs y.us rest j.tree z.trees has sets j.spelled y.is z.spelled;
-            alike = al.more one (with_part m n j.tree) (other ∷ parts) z.trees (al.part n i m.place b j.tree j.alike) z.alike;
+            alike = al.one_part one (with_part m n j.tree) (other ∷ parts) z.trees (al.part n i m.place b j.tree j.alike) z.alike;
           }));
     })
 
@@ -195,8 +195,8 @@ with_form q x parts is h others =
     record {
       code = c.join (at_level 10 (printed x)) _ inner.code (named (codes "with") _ is (c.braces (listed (map part_kinds parts)) [] others.code c.none));
       reads = λ l ts rest low are.
-          let m = middle _ (k.Name (codes "with")) (in_braces (listed (map part_kinds parts))) ts rest are in
-          first (k.Sign s.OpenBrace) _ m.us rest (λ xs. Are _ ts (m.t ∷ xs) → Reads l (node q (ek.With x parts)) ts rest) m.behind (λ o us opens inside front.
+          let m = middle (at_level 10 (printed x)) (k.Name (codes "with")) (in_braces (listed (map part_kinds parts))) ts rest are in
+          first (k.Sign s.OpenBrace) _ m.us rest (λ xs. Are (at_level 10 (printed x)) ts (m.t ∷ xs) → Reads l (node q (ek.With x parts)) ts rest) m.behind (λ o us opens inside front.
           let e = ended (listed (map part_kinds parts)) (k.Sign s.CloseBrace) us rest inside in
           let i = inner.reads ts (m.t ∷ o ∷ us) front in
           let j = others.reads us (e.t ∷ rest) e.front in
@@ -216,31 +216,31 @@ with_again q x parts is h others = made q (ek.With x parts) _ (law.expr_with_par
 pub record ReadsTexts (parts : List TextPart) (ts rest : List Token) : Type 0 where
   pub trees : List TextPart
   pub spelled : TextParts ts rest trees
-  pub alike : Each AlikeTexts parts trees
+  pub alike : AlikeAllTexts parts trees
 
 pub record TextsAs (parts : List TextPart) (ks : Kinds) : Type 0 where
-  pub parts : AreParts ks
+  pub laid : AreParts ks
   pub reads : (ts rest : List Token) → Are ks ts rest → ReadsTexts parts ts rest
 
 abbrev pub TextsAgain : List TextPart → Type 0
 TextsAgain parts = TextsAs parts (joined (map text_kinds parts))
 
 no_texts_read : (ts rest : List Token) → Are [] ts rest → ReadsTexts [] ts rest
-no_texts_read _ _ (r.none rest) = record { trees = []; spelled = g.no_text_part rest; alike = al.none }
+no_texts_read _ _ (r.nil rest) = record { trees = []; spelled = g.no_text_part rest; alike = al.no_text }
 
 pub no_texts : TextsAgain []
-no_texts = record { parts = c.no_part; reads = no_texts_read }
+no_texts = record { laid = c.no_part; reads = no_texts_read }
 
 pub literal_texts : (x : List ℕ) (parts : List TextPart) → 0 < length x → begins_part (joined (map text_kinds parts)) ≡ false → TextsAgain parts → TextsAgain (tp.Literal x ∷ parts)
 literal_texts x parts some apart others =
     subst (λ y. TextsAs (tp.Literal x ∷ parts) (y ++ joined (map text_kinds parts))) (sym (law.text_literal x)) (record {
-      parts = c.literal x (joined (map text_kinds parts)) some apart others.parts;
+      laid = c.literal x (joined (map text_kinds parts)) some apart others.laid;
       reads = λ ts rest are. first (k.Part x) _ ts rest (λ xs. ReadsTexts (tp.Literal x ∷ parts) xs rest) are (λ t us is more.
           let j = others.reads us rest more in
           record {
             trees = tp.Literal x ∷ j.trees;
             spelled = g.literal_part x t us rest j.trees is j.spelled;
-            alike = al.more (tp.Literal x) (tp.Literal x) parts j.trees (al.literal x) j.alike;
+            alike = al.one_text (tp.Literal x) (tp.Literal x) parts j.trees (al.literal x) j.alike;
           });
     })
 
@@ -252,7 +252,7 @@ hole_texts b parts h others =
     let x = all b h in
     let ks = joined (map text_kinds parts) in
     subst (λ y. TextsAs (tp.Hole b ∷ parts) y) (sym (ap (λ y. y ++ ks) (law.text_hole b) ∙ hole_kinds b ks)) (record {
-      parts = c.hole (whole (printed b)) ks x.code others.parts;
+      laid = c.hole (whole (printed b)) ks x.code others.laid;
       reads = λ ts rest are. first (k.Sign s.HoleOpen) _ ts rest (λ xs. ReadsTexts (tp.Hole b ∷ parts) xs rest) are (λ o us opens more.
           let m = middle (whole (printed b)) (k.Sign s.HoleClose) ks us rest more in
           let i = x.reads us (m.t ∷ m.us) m.front in
@@ -260,14 +260,14 @@ hole_texts b parts h others =
           record {
             trees = tp.Hole i.tree ∷ j.trees;
             spelled = g.hole i.place o m.t us m.us rest i.tree j.trees opens i.spelled m.is j.spelled;
-            alike = al.more (tp.Hole b) (tp.Hole i.tree) parts j.trees (al.hole b i.tree i.alike) j.alike;
+            alike = al.one_text (tp.Hole b) (tp.Hole i.tree) parts j.trees (al.hole b i.tree i.alike) j.alike;
           });
     })
 
 interpolated_form : (q : Place) (parts : List TextPart) → TextsAgain parts → Again (node q (ek.Interpolated parts)) (p.interpolated (map text_kinds parts))
 unfolding p.interpolated
 interpolated_form q parts others = record {
-  code = c.interpolated (joined (map text_kinds parts)) [] others.parts c.none;
+  code = c.interpolated (joined (map text_kinds parts)) [] others.laid c.none;
   reads = λ l ts rest low are. first (k.Sign s.InterpolationStart) _ ts rest (λ xs. Reads l (node q (ek.Interpolated parts)) xs rest) are (λ o us opens more.
       let e = ended (joined (map text_kinds parts)) (k.Sign s.InterpolationEnd) us rest more in
       let j = others.reads us (e.t ∷ rest) e.front in
@@ -290,7 +290,7 @@ empty_form q b is h = record {
   code = c.join (of_type w.ImmutableList (type_kinds b)) _ (of_type_code w.ImmutableList (type_kinds b) h.code) (signed s.Dot _ refl (named (codes "Empty") [] is c.none));
   reads = λ l ts rest low are.
       let m = middle (of_type w.ImmutableList (type_kinds b)) (k.Sign s.Dot) (k.Name (codes "Empty") ∷ []) ts rest are in
-      single (k.Name (codes "Empty")) m.us rest (λ xs. Are _ ts (m.t ∷ xs) → Reads l (node q (ek.EmptyList b)) ts rest) m.behind (λ n has front.
+      single (k.Name (codes "Empty")) m.us rest (λ xs. Are (of_type w.ImmutableList (type_kinds b)) ts (m.t ∷ xs) → Reads l (node q (ek.EmptyList b)) ts rest) m.behind (λ n has front.
       let x = bracketed w.ImmutableList b ts (m.t ∷ n ∷ rest) h front in
       subst (λ xs. Reads l (node q (ek.EmptyList b)) xs rest) (sym x.whole) (record {
         place = x.t.place;

@@ -14,7 +14,7 @@ use Rattle.cs_grammar.specs.Expressions as g
 use Rattle.cs_print.specs.Printed.{Kinds, joined, text_kinds}
 use Rattle.cs_print.proofs.PrintedLaws as law
 use Rattle.cs_print.proofs.CodeKinds.{begins_part, is_part, IsLexeme}
-use Rattle.cs_print.proofs.Reads.{AreProper, first_part, later, lexeme, apart}
+use Rattle.cs_print.proofs.ReadLemmas.{AreProper, first_part, later, lexeme, apart}
 use Rattle.cs_print.proofs.TypesAgain.{type_again}
 use Rattle.cs_print.proofs.ExpressionForms.{ExprAgain, number_again, text_again, name_again, literal_again, binary_again, unary_again, cast_again, conditional_again, member_again, null_member_again, index_again, static_again}
 use Rattle.cs_print.proofs.ExpressionLists.{ValuesAgain, ArgumentsAgain, PartsAgain, TextsAgain, one_value, more_values, no_arguments, some_arguments, call_again, new_again, one_part, more_parts, with_again, no_texts, literal_texts, hole_texts, interpolated_again, empty_again}
@@ -46,10 +46,10 @@ part_first t ts x is = ap is_part is
 
 -- what begins with a literal text begins so in the tokens
 apart_from : (ks : Kinds) (ts : List Token) → (begins_part ks ≡ true → first_part ts ≡ true) → first_part ts ≡ false → begins_part ks ≡ false
-apart_from ks ts begins no = go (begins_part ks) refl
+apart_from ks ts begins other = go (begins_part ks) refl
   where
     go : (b : Bool) → begins_part ks ≡ b → begins_part ks ≡ false
-    go true e = absurd (false≢true (sym no ∙ begins e))
+    go true e = absurd (false≢true (sym other ∙ begins e))
     go false e = e
 
 values_more : (b : Expr) (bs : List Expr) (ts rest : List Token) → Values ts rest bs → ExprAgain b → ValuesAgain bs → ValuesAgain (b ∷ bs)

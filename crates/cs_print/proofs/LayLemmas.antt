@@ -1,6 +1,6 @@
 -- The text of such tokens is cut into them again.
 use Rattle.std.proofs.Common.{◌≡◌, ◌≢◌, ℕ, ◌+◌, ◌<◌, ◌≤◌, pos, List, [], ◌∷◌, ◌++◌, length, true, false, Some, None, refl, sym, ap, ◌∙◌, subst, append_assoc, arith}
-use Rattle.std.specs.Prelude.{Bool, eqb, ◌||◌, codes}
+use Rattle.std.specs.Prelude.{Bool, not, eqb, ◌||◌, codes}
 use Rattle.std.specs.declared.option.Option.{Option}
 use Rattle.std.specs.List.{flat_map}
 use Rattle.std.specs.Fmt.{decimal}
@@ -18,7 +18,6 @@ use Rattle.cs_token.specs.declared.token.TokenKind.TheVariants as k
 use Rattle.cs_token.specs.declared.token.Sign.{Sign}
 use Rattle.cs_token.specs.declared.token.Sign.TheVariants as s
 use Rattle.cs_token.specs.declared.token.Word.{Word}
-use Rattle.cs_token.specs.declared.written.Form.TheVariants.{Quoted, Part}
 use Rattle.cs_token.specs.Characters.{is_in, begins_with}
 use Rattle.cs_token.specs.Lexemes.{is_code, keeps_line, Stands, IsGap, IsLongest}
 use Rattle.cs_token.specs.Lexemes as g
@@ -28,15 +27,13 @@ use Rattle.cs_token.specs.Spelling.{innermost, with_open, closed, with_brace, be
 use Rattle.cs_token.specs.Walks.{Walk}
 use Rattle.cs_token.specs.Walks as walk
 use Rattle.cs_token.specs.Words.{spelling}
-use Rattle.cs_token.specs.Written.{IsUnit, NoUnit}
-use Rattle.cs_token.specs.Reading.Written.{unit_at, doubled_at}
+use Rattle.cs_token.specs.Written as written
 use Rattle.cs_token.proofs.LexLemmas.{step-before}
-use Rattle.cs_token.proofs.WrittenLemmas.{unit_at-none}
 use Rattle.cs_print.specs.Printed.{Kinds}
 use Rattle.cs_print.specs.Layout.{quoted, in_part, token_text, gap_behind, code_text}
 use Rattle.cs_print.proofs.CodeKinds.{is_single, IsSimple, is_part, begins_part, IsCode, AreParts}
 use Rattle.cs_print.proofs.CodeKinds as c
-use Rattle.cs_print.proofs.QuoteLemmas.{digits-run, number-again, quoted-again, parts-again}
+use Rattle.cs_print.proofs.QuoteLemmas.{digits-run, number-again, quoted-again, parts-again, no-unit-quote, no-unit-hole}
 
 -- the text of tokens
 
@@ -65,8 +62,8 @@ lays-join _ _ c _ ms (gap m n end text ks first rest) more = gap m n c text (ks 
 
 -- tokens of these kinds, up to a rest
 pub data Are : Kinds → List Token → List Token → Type 0 where
-  none : (rest : List Token) → Are [] rest rest
-  more : (kind : TokenKind) (t : Token) (ks : Kinds) (ts rest : List Token) → t.kind ≡ kind → Are ks ts rest → Are (kind ∷ ks) (t ∷ ts) rest
+  nil : (rest : List Token) → Are [] rest rest
+  cons : (kind : TokenKind) (t : Token) (ks : Kinds) (ts rest : List Token) → t.kind ≡ kind → Are ks ts rest → Are (kind ∷ ks) (t ∷ ts) rest
 
 -- the pieces, and the tokens among them
 record Cut (m : Moment) (ks : Kinds) (n : Moment) : Type 0 where
@@ -75,13 +72,13 @@ record Cut (m : Moment) (ks : Kinds) (n : Moment) : Type 0 where
   are : Are ks (tokens_among m.1 pieces) []
 
 cut : (m n : Moment) (ks : Kinds) → Lays m ks n → Cut m ks n
-cut m _ _ (stop _) = record { pieces = []; laid = walk.stay m; are = none [] }
+cut m _ _ (stop _) = record { pieces = []; laid = walk.stay m; are = nil [] }
 cut m end _ (token _ n _ kind text ks first rest) =
     let later = cut n end ks rest in
     record {
       pieces = (Some kind, text) ∷ later.pieces;
       laid = walk.go m n end (Some kind, text) later.pieces first later.laid;
-      are = more kind _ ks _ [] refl (subst (λ x. Are ks (tokens_among x later.pieces) []) (step-before m n (Some kind, text) first) later.are);
+      are = cons kind _ ks _ [] refl (subst (λ x. Are ks (tokens_among x later.pieces) []) (step-before m n (Some kind, text) first) later.are);
     }
 cut m end ks (gap _ n _ text _ first rest) =
     let later = cut n end ks rest in
@@ -121,7 +118,7 @@ laid-blank o before rest code =
 -- signs
 
 single-of-code : (sign : Sign) → is_single sign ≡ true → is_of_code sign ≡ true
-unfolding is_single is_of_code
+unfolding is_of_code
 single-of-code s.OpenBrace e = refl
 single-of-code s.CloseBrace e = refl
 single-of-code s.InterpolationStart e = refl
@@ -131,7 +128,7 @@ single-of-code s.HoleClose e = absurd (cc)
 single-of-code _ e = refl
 
 single-keeps : (sign : Sign) (place : Place) (o : List Opened) → is_single sign ≡ true → behind_sign sign place o ≡ o
-unfolding is_single behind_sign
+unfolding behind_sign
 single-keeps s.OpenBrace place o e = absurd (cc)
 single-keeps s.CloseBrace place o e = absurd (cc)
 single-keeps s.InterpolationStart place o e = absurd (cc)
@@ -141,7 +138,6 @@ single-keeps s.HoleClose place o e = absurd (cc)
 single-keeps _ place o e = refl
 
 not_brace : (sign : Sign) → is_single sign ≡ true → sign ≢ s.CloseBrace
-unfolding is_single
 not_brace sign e is = false≢true (subst (λ x. is_single x ≡ true) is e)
 
 has_blank : List ℕ → Bool
@@ -150,52 +146,73 @@ has_blank (d ∷ text) = eqb d 32 || has_blank text
 
 no_blank : (sign : Sign) → has_blank (mark sign) ≡ false
 unfolding mark has_blank
+no_blank s.OpenRound = refl
 no_blank _ = refl
 
 two_at_most : (sign : Sign) → length (mark sign) ≤ 2
 unfolding mark
+two_at_most s.OpenRound = omega arith
 two_at_most _ = omega arith
 
 blank_first : (d : ℕ) (y : List ℕ) → has_blank (d ∷ y) ≡ false → 32 ≢ d
 unfolding has_blank
-blank_first d y no e = false≢true (sym (subst (λ x. (eqb x 32 || has_blank y) ≡ false) (sym e) no))
+blank_first d y free e = false≢true (sym (subst (λ x. (eqb x 32 || has_blank y) ≡ false) (sym e) free))
 
 blank_later : (d : ℕ) (y : List ℕ) → has_blank (d ∷ y) ≡ false → has_blank y ≡ false
 unfolding has_blank
-blank_later d y no = (or_parts (eqb d 32) (has_blank y) no).1
+blank_later d y free = (or_parts (eqb d 32) (has_blank y) free).1
 
 -- what has no blank ends before one
 ends-before : (x y rest more : List ℕ) → has_blank y ≡ false → x ++ 32 ∷ rest ≡ y ++ more → length y ≤ length x
-ends-before x [] rest more no e = omega arith
-ends-before [] (d ∷ y) rest more no e = absurd (blank_first d y no (cc))
-ends-before (x ∷ xs) (d ∷ y) rest more no e =
+ends-before x [] rest more free e = omega arith
+ends-before [] (d ∷ y) rest more free e = absurd (blank_first d y free (cc))
+ends-before (x ∷ xs) (d ∷ y) rest more free e =
     let tails : xs ++ 32 ∷ rest ≡ y ++ more = cc in
-    let shorter = ends-before xs y rest more (blank_later d y no) tails in
+    let shorter = ends-before xs y rest more (blank_later d y free) tails in
     omega (arith, shorter)
 
-no-line : (sign : Sign) (rest more : List ℕ) → is_of_code sign ≡ true → mark sign ++ 32 ∷ rest ≡ codes "//" ++ more → ⊥
-unfolding mark is_of_code
-no-line _ rest more code e = cc
+head_of : List ℕ → ℕ
+head_of [] = 0
+head_of (d ∷ text) = d
 
-no-block : (sign : Sign) (rest more : List ℕ) → is_of_code sign ≡ true → mark sign ++ 32 ∷ rest ≡ codes "/*" ++ more → ⊥
-unfolding mark is_of_code
-no-block _ rest more code e = cc
+second_of : List ℕ → ℕ
+second_of [] = 0
+second_of (d ∷ text) = head_of text
+
+-- no sign goes on as a comment begins
+no-slash : (sign : Sign) (rest : List ℕ) → eqb (second_of (mark sign ++ 32 ∷ rest)) 47 ≡ false
+unfolding mark head_of second_of
+no-slash s.OpenRound rest = refl
+no-slash _ rest = refl
+
+no-star : (sign : Sign) (rest : List ℕ) → eqb (second_of (mark sign ++ 32 ∷ rest)) 42 ≡ false
+unfolding mark head_of second_of
+no-star s.OpenRound rest = refl
+no-star _ rest = refl
+
+no-line : (sign : Sign) (rest after : List ℕ) → mark sign ++ 32 ∷ rest ≡ codes "//" ++ after → ⊥
+unfolding head_of second_of
+no-line sign rest after e = false≢true (sym (no-slash sign rest) ∙ ap (λ x. eqb (second_of x) 47) e)
+
+no-block : (sign : Sign) (rest after : List ℕ) → mark sign ++ 32 ∷ rest ≡ codes "/*" ++ after → ⊥
+unfolding head_of second_of
+no-block sign rest after e = false≢true (sym (no-star sign rest) ∙ ap (λ x. eqb (second_of x) 42) e)
 
 longest : (sign : Sign) (rest : List ℕ) → is_of_code sign ≡ true → IsLongest sign (32 ∷ rest)
 longest sign rest code = record {
   of_code = code;
   longest = λ other more of_code same. ends-before (mark sign) (mark other) rest more (no_blank other) same;
-  no_line = λ more same. no-line sign rest more code same;
-  no_block = λ more same. no-block sign rest more code same;
+  no_line = λ more same. no-line sign rest more same;
+  no_block = λ more same. no-block sign rest more same;
 }
 
 start-longest : (rest : List ℕ) → IsLongest s.InterpolationStart rest
-unfolding mark is_of_code
+unfolding mark is_of_code head_of second_of
 start-longest rest = record {
   of_code = refl;
   longest = λ other more of_code same. two_at_most other;
-  no_line = λ more same. cc;
-  no_block = λ more same. cc;
+  no_line = λ more same. false≢true (ap (λ x. eqb (head_of x) 47) same);
+  no_block = λ more same. false≢true (ap (λ x. eqb (head_of x) 47) same);
 }
 
 -- simple tokens
@@ -207,23 +224,23 @@ stands-simple : (a : Option Around) (kind : TokenKind) (rest : List ℕ) → is_
 unfolding token_text
 stands-simple a _ rest code (c.name x is no_word) = g.name a x (32 ∷ rest) code is refl no_word
 stands-simple a _ rest code (c.number n small) = g.number a (pos n) (decimal n) (32 ∷ rest) code (digits-run n (omega (arith, small))) refl (number-again n small)
-stands-simple a _ rest code (c.text x) = g.text a (flat_map quoted x) x (32 ∷ rest) code (quoted-again x)
+stands-simple a _ rest code (c.text x) = g.text a (flat_map quoted x) x (32 ∷ rest) code (quoted-again _ (λ d e f h. rw (e, f, h) refl) x)
 stands-simple a _ rest code (c.word w) = g.word a w (32 ∷ rest) code refl
 stands-simple a _ rest code (c.sign sign is) = g.sign a sign (32 ∷ rest) code (longest sign rest (single-of-code sign is)) (not_hole a sign is)
 
+sign-gap : (sign : Sign) → is_single sign ≡ true → gap_behind (k.Sign sign) ≡ 32 ∷ []
+unfolding gap_behind
+sign-gap s.InterpolationStart e = absurd (cc)
+sign-gap s.HoleClose e = absurd (cc)
+sign-gap _ e = refl
+
 simple-gap : (kind : TokenKind) → IsSimple kind → gap_behind kind ≡ 32 ∷ []
-unfolding gap_behind is_single
+unfolding gap_behind
 simple-gap _ (c.name x is no_word) = refl
 simple-gap _ (c.number n small) = refl
 simple-gap _ (c.text x) = refl
 simple-gap _ (c.word w) = refl
-simple-gap _ (c.sign sign is) = of_sign sign is
-  where
-    of_sign : (sign : Sign) → is_single sign ≡ true → gap_behind (k.Sign sign) ≡ 32 ∷ []
-    unfolding gap_behind is_single
-    of_sign s.InterpolationStart e = absurd (cc)
-    of_sign s.HoleClose e = absurd (cc)
-    of_sign _ e = refl
+simple-gap _ (c.sign sign is) = sign-gap sign is
 
 simple-keeps : (kind : TokenKind) (place : Place) (o : List Opened) → IsSimple kind → behind_kind (Some kind) place o ≡ o
 simple-keeps _ place o (c.name x is no_word) = refl
@@ -289,27 +306,25 @@ laid-close o place before rest code =
 
 -- interpolated texts
 
-no-unit-quote : (rest : List ℕ) → NoUnit Part (34 ∷ rest)
-no-unit-quote rest = unit_at-none Part (34 ∷ rest) (none rest)
-  where
-    none : (rest : List ℕ) → unit_at Part (34 ∷ rest) ≡ None
-    unfolding unit_at doubled_at
-    none [] = refl
-    none (d ∷ rest) = refl
+-- a literal text ends before this: a quote, or a brace and a blank
+data EndsPart : List ℕ → Type 0 where
+  quote : (rest : List ℕ) → EndsPart (34 ∷ rest)
+  brace : (rest : List ℕ) → EndsPart (123 ∷ 32 ∷ rest)
 
-no-unit-hole : (rest : List ℕ) → NoUnit Part (123 ∷ 32 ∷ rest)
-no-unit-hole rest = unit_at-none Part (123 ∷ 32 ∷ rest) none
-  where
-    none : unit_at Part (123 ∷ 32 ∷ rest) ≡ None
-    unfolding unit_at doubled_at
-    none = refl
+part-plain : (d : ℕ) → (eqb d 123 || eqb d 125) ≡ false → eqb d 34 ≡ false → eqb d 92 ≡ false → eqb d 10 ≡ false
+    → not (eqb d 34 || eqb d 92 || eqb d 10 || eqb d 123 || eqb d 125) ≡ true
+part-plain d b e f h = let both = or_parts (eqb d 123) (eqb d 125) b in rw (e, f, h, both.0, both.1) refl
+
+stands-part : (x rest : List ℕ) → 0 < length x → EndsPart rest → Stands (Some around.Interpolation) (Some (k.Part x)) (flat_map in_part x) rest
+stands-part x _ some (quote rest) = g.part (flat_map in_part x) x (34 ∷ rest) some (parts-again _ (λ d is. written.doubled d is) (λ d b e f h. part-plain d b e f h) x) (no-unit-quote _ rest refl)
+stands-part x _ some (brace rest) = g.part (flat_map in_part x) x (123 ∷ 32 ∷ rest) some (parts-again _ (λ d is. written.doubled d is) (λ d b e f h. part-plain d b e f h) x) (no-unit-hole _ rest refl)
 
 -- no literal text stands before what is written behind one
-part-ends : (ks : Kinds) (rest : List ℕ) → AreParts ks → begins_part ks ≡ false → NoUnit Part (code_text ks ++ (34 ∷ rest))
+part-ends : (ks : Kinds) (rest : List ℕ) → AreParts ks → begins_part ks ≡ false → EndsPart (code_text ks ++ (34 ∷ rest))
 unfolding code_text token_text gap_behind mark
-part-ends _ rest c.no_part none = no-unit-quote rest
+part-ends _ rest c.no_part none = quote rest
 part-ends _ rest (c.literal x ks some apart parts) none = absurd (cc)
-part-ends _ rest (c.hole ks ms code parts) none = no-unit-hole _
+part-ends _ rest (c.hole ks ms code parts) none = brace _
 
 laid-start : (o : List Opened) (before rest : List ℕ) → is_code (innermost o) ≡ true
     → Laid o before (k.Sign s.InterpolationStart ∷ []) (token_text (k.Sign s.InterpolationStart) ++ gap_behind (k.Sign s.InterpolationStart)) rest (with_open around.Interpolation (place_after before) o)
@@ -323,12 +338,12 @@ unfolding token_text gap_behind behind_sign
 laid-end o place before rest code =
     laid-spaced (with_open around.Interpolation place o) before (k.Sign s.InterpolationEnd) (mark s.InterpolationEnd) rest (g.interpolation_end (32 ∷ rest)) code
 
-laid-literal : (o : List Opened) (place : Place) (before x rest : List ℕ) → 0 < length x → NoUnit Part rest
+laid-literal : (o : List Opened) (place : Place) (before x rest : List ℕ) → 0 < length x → EndsPart rest
     → Laid (with_open around.Interpolation place o) before (k.Part x ∷ []) (token_text (k.Part x) ++ gap_behind (k.Part x)) rest (with_open around.Interpolation place o)
 unfolding token_text gap_behind
 laid-literal o place before x rest some stops =
     subst (λ text. Laid (with_open around.Interpolation place o) before (k.Part x ∷ []) text rest (with_open around.Interpolation place o)) (sym (append-nil (flat_map in_part x)))
-    (laid-token (with_open around.Interpolation place o) before (k.Part x) (flat_map in_part x) rest (g.part (flat_map in_part x) x rest some (parts-again x) stops))
+    (laid-token (with_open around.Interpolation place o) before (k.Part x) (flat_map in_part x) rest (stands-part x rest some stops))
 
 blank-no-brace : (rest more : List ℕ) → 32 ∷ rest ≢ codes "{" ++ more
 blank-no-brace rest more e = cc
@@ -346,6 +361,10 @@ laid-hole-end o place before rest =
     subst (λ text. Laid (with_open around.Hole place o) before (k.Sign s.HoleClose ∷ []) text rest o) (sym (append-nil (mark s.HoleClose)))
     (laid-token (with_open around.Hole place o) before (k.Sign s.HoleClose) (mark s.HoleClose) rest (g.hole_close rest))
 
+end-text : (ms : Kinds) (rest : List ℕ) → code_text (k.Sign s.InterpolationEnd ∷ ms) ++ rest ≡ 34 ∷ (32 ∷ (code_text ms ++ rest))
+unfolding code_text token_text gap_behind mark
+end-text ms rest = refl
+
 mutual
   -- code is cut into its tokens
   pub code-laid : (ks : Kinds) (o : List Opened) (before rest : List ℕ) → IsCode ks → is_code (innermost o) ≡ true → Laid o before ks (code_text ks) rest o
@@ -359,8 +378,9 @@ mutual
       (laid-more opened o o _ (k.Sign s.CloseBrace) ms rest (laid-close o (place_after before) _ _ code) (code-laid ms o _ rest more code)))
   code-laid _ o before rest (c.interpolated ks ms parts more) code =
       let opened = with_open around.Interpolation (place_after before) o in
+      let inner = before ++ (token_text (k.Sign s.InterpolationStart) ++ gap_behind (k.Sign s.InterpolationStart)) in
       laid-more o opened o before (k.Sign s.InterpolationStart) (ks ++ k.Sign s.InterpolationEnd ∷ ms) rest (laid-start o before _ code)
-      (laid-behind opened opened o _ ks (k.Sign s.InterpolationEnd ∷ ms) rest (parts-laid ks o (place_after before) _ _ parts)
+      (laid-behind opened opened o _ ks (k.Sign s.InterpolationEnd ∷ ms) rest (subst (λ x. Laid opened inner ks (code_text ks) x opened) (sym (end-text ms rest)) (parts-laid ks o (place_after before) inner _ parts))
       (laid-more opened o o _ (k.Sign s.InterpolationEnd) ms rest (laid-end o (place_after before) _ _ code) (code-laid ms o _ rest more code)))
 
   parts-laid : (ks : Kinds) (o : List Opened) (place : Place) (before rest : List ℕ) → AreParts ks

@@ -2,8 +2,12 @@ pub mod PrintedLaws
 pub mod CodeKinds
 pub mod QuoteLemmas
 pub mod LayLemmas
-pub mod Reads
+pub mod ReadLemmas
 pub mod TypesAgain
 pub mod ExpressionForms
 pub mod ExpressionLists
 pub mod ExpressionsAgain
+pub mod LookLemmas
+pub mod SimpleAgain
+pub mod StatementForms
+pub mod StatementsAgain

@@ -11,7 +11,7 @@ use Rattle.cs_ast.specs.declared.cs_type.TypeKind.TheViews.{roll-TypeKind}
 use Rattle.cs_ast.specs.declared.cs_type.TypeKind.TheFolds.{fold_out-TypeExpr, fold-roll-TypeKind, map-TypeKind}
 use Rattle.cs_ast.specs.declared.expression.Body.{Body}
 use Rattle.cs_ast.specs.declared.expression.Body.TheOpen.{Body-F, ExprKind-F, StmtKind-F, TextPart-F}
-use Rattle.cs_ast.specs.declared.expression.Body.TheFolds.{fold_out-Expr, fold_out-Stmt, fold_out-Section, fold_out-WithPart, fold-roll-Body, fold-roll-ExprKind, fold-roll-StmtKind, fold-roll-TextPart, map-Body, map-ExprKind, map-StmtKind, map-TextPart}
+use Rattle.cs_ast.specs.declared.expression.Body.TheFolds.{fold_out-Expr, fold_out-Stmt, fold_out-Section, fold_out-WithPart, fold-roll-Section, fold-roll-Body, fold-roll-ExprKind, fold-roll-StmtKind, fold-roll-TextPart, map-Body, map-ExprKind, map-StmtKind, map-TextPart}
 use Rattle.cs_ast.specs.declared.expression.Body.TheViews.{roll-Body, roll-ExprKind, roll-StmtKind, roll-TextPart}
 use Rattle.cs_ast.specs.declared.expression.Body.TheVariants as by
 use Rattle.cs_ast.specs.declared.expression.Expr.{Expr}
@@ -32,6 +32,7 @@ use Rattle.cs_ast.specs.declared.operators.CastOp.{CastOp}
 use Rattle.cs_ast.specs.declared.operators.StaticType.{StaticType}
 use Rattle.cs_ast.specs.declared.operators.StepOp.{StepOp}
 use Rattle.cs_ast.specs.declared.operators.UnaryOp.{UnaryOp}
+use Rattle.cs_grammar.specs.Statements.{section}
 use Rattle.cs_token.specs.declared.token.TokenKind.TheVariants as k
 use Rattle.cs_token.specs.declared.token.Sign.TheVariants as s
 use Rattle.cs_token.specs.declared.token.Word.TheVariants as w
@@ -101,17 +102,19 @@ unfolding body_kinds printed_kind statement_kind_kinds text_kinds printed sectio
 part_law a =
     fold_out-WithPart Kinds Printed Kinds Kinds Printed Kinds Kinds Kinds body_form expression_form statement_form text_form (λ it. it.kind) (λ it. sectioned it.labels it.body) (λ it. it.kind) (λ it. given it.name.name it.value) a
 
-section_rolled : (a : Section) → section_kinds a ≡ sectioned (out-Section a).labels (map statement_kinds (out-Section a).body)
-unfolding body_kinds printed_kind statement_kind_kinds text_kinds printed section_kinds statement_kinds part_kinds
-section_rolled a =
-    fold_out-Section Kinds Printed Kinds Kinds Printed Kinds Kinds Kinds body_form expression_form statement_form text_form (λ it. it.kind) (λ it. sectioned it.labels it.body) (λ it. it.kind) (λ it. given it.name.name it.value) a
-
 -- one after another
 pub joined_map : {X : Type 0} (f : X → Kinds) (xs : List X) → joined (map f xs) ≡ flat_map f xs
 joined_map f xs = flat_map-map (λ x. x) f xs
 
-pub section_law : (a : Section) → section_kinds a ≡ joined (map (λ label. p.label_kinds label.kind) (out-Section a).labels) ++ flat_map statement_kinds (out-Section a).body
-section_law a = section_rolled a ∙ ap (λ x. joined (map (λ label. p.label_kinds label.kind) (out-Section a).labels) ++ x) (joined_map statement_kinds (out-Section a).body)
+pub section_of : (labels : List Label) (body : List Stmt) → section_kinds (section labels body) ≡ sectioned labels (map statement_kinds body)
+unfolding body_kinds printed_kind statement_kind_kinds text_kinds printed section_kinds statement_kinds part_kinds
+section_of labels body =
+    fold-roll-Section Kinds Printed Kinds Kinds Printed Kinds Kinds Kinds body_form expression_form statement_form text_form (λ it. it.kind) (λ it. sectioned it.labels it.body) (λ it. it.kind) (λ it. given it.name.name it.value) (record { labels = labels; body = body })
+
+pub section_law : (a : Section) → section_kinds a ≡ sectioned (out-Section a).labels (map statement_kinds (out-Section a).body)
+unfolding body_kinds printed_kind statement_kind_kinds text_kinds printed section_kinds statement_kinds part_kinds
+section_law a =
+    fold_out-Section Kinds Printed Kinds Kinds Printed Kinds Kinds Kinds body_form expression_form statement_form text_form (λ it. it.kind) (λ it. sectioned it.labels it.body) (λ it. it.kind) (λ it. given it.name.name it.value) a
 
 at_kind : (kind : ExprKind) (x : ExprKind-F Body ExprKind StmtKind TextPart Expr Section Stmt WithPart) → roll-ExprKind x ≡ kind → printed_kind kind ≡ expression_form (map-ExprKind Body ExprKind StmtKind TextPart Expr Section Stmt WithPart Kinds Printed Kinds Kinds Printed Kinds Kinds Kinds body_kinds printed_kind statement_kind_kinds text_kinds printed section_kinds statement_kinds part_kinds x)
 unfolding body_kinds printed_kind statement_kind_kinds text_kinds printed section_kinds statement_kinds part_kinds

@@ -4,16 +4,14 @@ use Rattle.std.specs.Prelude.{Bool, not, eqb, ◌&&◌, ◌||◌}
 use Rattle.std.specs.List.{flat_map, list_all}
 use Rattle.std.specs.Fmt.{decimal, signed_decimal}
 use Rattle.std.specs.Int.{w32}
-use Rattle.std.proofs.lemmas.Bool.{and_from, and_parts, le-leb, cases_Bool, eqb-true}
+use Rattle.std.proofs.lemmas.Bool.{and_from, and_parts, le-leb, cases_Bool, eqb-true, eqb-false, false≢true}
 use Rattle.std.proofs.lemmas.Fmt.{decimal_by_steps, decimal_nonempty}
 use Rattle.std.proofs.lemmas.Int.{ints}
 use Rattle.text_core.specs.Decimal.{i32_of}
 use Rattle.text_core.proofs.DecimalLemmas.{i32_of-signed_decimal}
 use Rattle.cs_token.specs.declared.characters.Class.TheVariants as class
-use Rattle.cs_token.specs.declared.written.Form.{Form}
-use Rattle.cs_token.specs.declared.written.Form.TheVariants.{Quoted, Part}
 use Rattle.cs_token.specs.Characters.{is_in, AreAll, IsRun}
-use Rattle.cs_token.specs.Written.{IsUnit, IsWritten, is_plain, is_brace}
+use Rattle.cs_token.specs.Written.{IsUnit, IsWritten, NoUnit, is_plain, is_brace}
 use Rattle.cs_token.specs.Written as g
 use Rattle.cs_print.specs.Layout.{quoted, in_part}
 
@@ -37,41 +35,87 @@ number-again n h = i32_of-signed_decimal (pos n) (omega (arith, ints))
 
 -- characters
 
-plain-quoted : (c : ℕ) → eqb c 34 ≡ false → eqb c 92 ≡ false → eqb c 10 ≡ false → is_plain Quoted c ≡ true
-plain-quoted c a b d = rw (a, b, d) refl
-
-plain-part : (c : ℕ) → eqb c 34 ≡ false → eqb c 92 ≡ false → eqb c 10 ≡ false → (eqb c 123 || eqb c 125) ≡ false → is_plain Part c ≡ true
-plain-part c a b d e = rw (a, b, d) (ap (λ x. not x) e)
-
-plain-in : (form : Form) (c : ℕ) → (form ≡ Part → is_brace c ≡ false) → eqb c 34 ≡ false → eqb c 92 ≡ false → eqb c 10 ≡ false → is_plain form c ≡ true
-plain-in Quoted c brace a b d = plain-quoted c a b d
-plain-in Part c brace a b d = plain-part c a b d (brace refl)
-
-unit-again : (form : Form) (c : ℕ) → (form ≡ Part → is_brace c ≡ false) → IsUnit form (quoted c) c
-unit-again form c brace = elim (cases_Bool (eqb c 34)) [
-  | inl is ↦ rw is (subst (λ x. IsUnit form (92 ∷ 34 ∷ []) x) (sym (eqb-true c 34 is)) (g.escape form 34 34 refl))
-  | inr no_quote ↦ elim (cases_Bool (eqb c 92)) [
-    | inl is ↦ rw (no_quote, is) (subst (λ x. IsUnit form (92 ∷ 92 ∷ []) x) (sym (eqb-true c 92 is)) (g.escape form 92 92 refl))
-    | inr no_slash ↦ elim (cases_Bool (eqb c 10)) [
-      | inl is ↦ rw (no_quote, no_slash, is) (subst (λ x. IsUnit form (92 ∷ 110 ∷ []) x) (sym (eqb-true c 10 is)) (g.escape form 110 10 refl))
-      | inr no_feed ↦ elim (cases_Bool (eqb c 39)) [
-        | inl is ↦ rw (no_quote, no_slash, no_feed, is) (subst (λ x. IsUnit form (92 ∷ 117 ∷ 48 ∷ 48 ∷ 50 ∷ 55 ∷ []) x) (sym (eqb-true c 39 is)) (g.number form 48 48 50 55 39 refl))
-        | inr no_single ↦ rw (no_quote, no_slash, no_feed, no_single) (g.itself form c (plain-in form c brace no_quote no_slash no_feed))
+module _ (form : _) (plain : (c : ℕ) → eqb c 34 ≡ false → eqb c 92 ≡ false → eqb c 10 ≡ false → is_plain form c ≡ true) where
+  pub unit-again : (c : ℕ) → IsUnit form (quoted c) c
+  unit-again c = elim (cases_Bool (eqb c 34)) [
+    | inl is ↦ rw is (subst (λ x. IsUnit form (92 ∷ 34 ∷ []) x) (sym (eqb-true c 34 is)) (g.escape form 34 34 refl))
+    | inr no_quote ↦ elim (cases_Bool (eqb c 92)) [
+      | inl is ↦ rw (no_quote, is) (subst (λ x. IsUnit form (92 ∷ 92 ∷ []) x) (sym (eqb-true c 92 is)) (g.escape form 92 92 refl))
+      | inr no_slash ↦ elim (cases_Bool (eqb c 10)) [
+        | inl is ↦ rw (no_quote, no_slash, is) (subst (λ x. IsUnit form (92 ∷ 110 ∷ []) x) (sym (eqb-true c 10 is)) (g.escape form 110 10 refl))
+        | inr no_feed ↦ elim (cases_Bool (eqb c 39)) [
+          | inl is ↦ rw (no_quote, no_slash, no_feed, is) (subst (λ x. IsUnit form (92 ∷ 117 ∷ 48 ∷ 48 ∷ 50 ∷ 55 ∷ []) x) (sym (eqb-true c 39 is)) (g.number form 48 48 50 55 39 refl))
+          | inr no_single ↦ rw (no_quote, no_slash, no_feed, no_single) (g.itself form c (plain c no_quote no_slash no_feed))
+        ]
       ]
     ]
   ]
-]
 
-part-again : (c : ℕ) → IsUnit Part (in_part c) c
-part-again c = elim (cases_Bool (eqb c 123 || eqb c 125)) [
-  | inl is ↦ rw is (g.doubled c is)
-  | inr none ↦ rw none (unit-again Part c (λ e. none))
-]
+  pub quoted-again : (x : List ℕ) → IsWritten form (flat_map quoted x) x
+  quoted-again [] = g.nothing
+  quoted-again (c ∷ x) = g.more (quoted c) (flat_map quoted x) x c (unit-again c) (quoted-again x)
 
-pub quoted-again : (x : List ℕ) → IsWritten Quoted (flat_map quoted x) x
-quoted-again [] = g.nothing
-quoted-again (c ∷ x) = g.more (quoted c) (flat_map quoted x) x c (unit-again Quoted c (λ e. absurd (cc))) (quoted-again x)
+module _ (form : _) (brace : (c : ℕ) → is_brace c ≡ true → IsUnit form (c ∷ c ∷ []) c)
+    (plain : (c : ℕ) → is_brace c ≡ false → eqb c 34 ≡ false → eqb c 92 ≡ false → eqb c 10 ≡ false → is_plain form c ≡ true) where
+  part-again : (c : ℕ) → IsUnit form (in_part c) c
+  part-again c = elim (cases_Bool (eqb c 123 || eqb c 125)) [
+    | inl is ↦ rw is (brace c is)
+    | inr none ↦ rw none (character c none)
+  ]
+    where
+      character : (c : ℕ) → is_brace c ≡ false → IsUnit form (quoted c) c
+      character c none = elim (cases_Bool (eqb c 34)) [
+        | inl is ↦ rw is (subst (λ x. IsUnit form (92 ∷ 34 ∷ []) x) (sym (eqb-true c 34 is)) (g.escape form 34 34 refl))
+        | inr no_quote ↦ elim (cases_Bool (eqb c 92)) [
+          | inl is ↦ rw (no_quote, is) (subst (λ x. IsUnit form (92 ∷ 92 ∷ []) x) (sym (eqb-true c 92 is)) (g.escape form 92 92 refl))
+          | inr no_slash ↦ elim (cases_Bool (eqb c 10)) [
+            | inl is ↦ rw (no_quote, no_slash, is) (subst (λ x. IsUnit form (92 ∷ 110 ∷ []) x) (sym (eqb-true c 10 is)) (g.escape form 110 10 refl))
+            | inr no_feed ↦ elim (cases_Bool (eqb c 39)) [
+              | inl is ↦ rw (no_quote, no_slash, no_feed, is) (subst (λ x. IsUnit form (92 ∷ 117 ∷ 48 ∷ 48 ∷ 50 ∷ 55 ∷ []) x) (sym (eqb-true c 39 is)) (g.number form 48 48 50 55 39 refl))
+              | inr no_single ↦ rw (no_quote, no_slash, no_feed, no_single) (g.itself form c (plain c none no_quote no_slash no_feed))
+            ]
+          ]
+        ]
+      ]
 
-pub parts-again : (x : List ℕ) → IsWritten Part (flat_map in_part x) x
-parts-again [] = g.nothing
-parts-again (c ∷ x) = g.more (in_part c) (flat_map in_part x) x c (part-again c) (parts-again x)
+  pub parts-again : (x : List ℕ) → IsWritten form (flat_map in_part x) x
+  parts-again [] = g.nothing
+  parts-again (c ∷ x) = g.more (in_part c) (flat_map in_part x) x c (part-again c) (parts-again x)
+
+-- fails character of a literal text is written by a quote, or by a brace alone
+
+head_of : List ℕ → ℕ
+head_of [] = 0
+head_of (c ∷ text) = c
+
+second_of : List ℕ → ℕ
+second_of [] = 0
+second_of (c ∷ text) = head_of text
+
+heads : (xs ys : List ℕ) → xs ≡ ys → head_of xs ≡ head_of ys
+heads xs ys e = ap head_of e
+
+seconds : (xs ys : List ℕ) → xs ≡ ys → second_of xs ≡ second_of ys
+seconds xs ys e = ap second_of e
+
+eqb_self : (n : ℕ) → eqb n n ≡ true
+eqb_self n = elim (cases_Bool (eqb n n)) [ inl is ↦ is | inr differs ↦ absurd (eqb-false n n differs refl) ]
+
+other_head : {A : Type 0} (xs ys : List ℕ) → xs ≡ ys → eqb (head_of xs) (head_of ys) ≡ false → A
+other_head xs ys e differs = absurd (false≢true (sym differs ∙ subst (λ x. eqb x (head_of ys) ≡ true) (sym (ap head_of e)) (eqb_self (head_of ys))))
+
+pub no-unit-quote : (form : _) (rest : List ℕ) → is_plain form 34 ≡ false → NoUnit form (34 ∷ rest)
+unfolding head_of second_of
+no-unit-quote _ rest fails _ more _ (g.itself form c plain) e =
+    false≢true (sym fails ∙ subst (λ x. is_plain form x ≡ true) (sym (heads (34 ∷ rest) (c ∷ more) e)) plain)
+no-unit-quote _ rest fails _ more _ (g.escape form d c is) e = other_head (34 ∷ rest) (92 ∷ d ∷ more) e refl
+no-unit-quote _ rest fails _ more _ (g.number form a b c d n is) e = other_head (34 ∷ rest) (92 ∷ 117 ∷ a ∷ b ∷ c ∷ d ∷ more) e refl
+no-unit-quote _ rest fails _ more _ (g.doubled c is) e = false≢true (subst (λ x. is_brace x ≡ true) (sym (heads (34 ∷ rest) (c ∷ c ∷ more) e)) is)
+
+pub no-unit-hole : (form : _) (rest : List ℕ) → is_plain form 123 ≡ false → NoUnit form (123 ∷ 32 ∷ rest)
+unfolding head_of second_of
+no-unit-hole _ rest fails _ more _ (g.itself form c plain) e =
+    false≢true (sym fails ∙ subst (λ x. is_plain form x ≡ true) (sym (heads (123 ∷ 32 ∷ rest) (c ∷ more) e)) plain)
+no-unit-hole _ rest fails _ more _ (g.escape form d c is) e = other_head (123 ∷ 32 ∷ rest) (92 ∷ d ∷ more) e refl
+no-unit-hole _ rest fails _ more _ (g.number form a b c d n is) e = other_head (123 ∷ 32 ∷ rest) (92 ∷ 117 ∷ a ∷ b ∷ c ∷ d ∷ more) e refl
+no-unit-hole _ rest fails _ more _ (g.doubled c is) e = false≢true (subst (λ x. is_brace x ≡ true) (sym (seconds (123 ∷ 32 ∷ rest) (c ∷ c ∷ more) e)) is)

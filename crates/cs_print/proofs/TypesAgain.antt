@@ -21,7 +21,7 @@ use Rattle.cs_print.proofs.PrintedLaws as law
 use Rattle.cs_print.proofs.CodeKinds.{IsCode, IsLexeme}
 use Rattle.cs_print.proofs.CodeKinds as c
 use Rattle.cs_print.proofs.LayLemmas.{Are}
-use Rattle.cs_print.proofs.Reads.{Prints, prints_as, first, single, ended, signed, worded, named, up_to, AreProper, later, lexeme}
+use Rattle.cs_print.proofs.ReadLemmas.{Prints, prints_as, first, single, ended, signed, worded, named, up_to, AreProper, later, lexeme}
 
 -- a type like this one is written
 pub record Writes (a : TypeExpr) (ts rest : List Token) : Type 0 where
@@ -51,19 +51,19 @@ one_word p kind word nullable e is = made p kind (k.Word word ∷ []) is (record
   });
 })
 
-kind_is : (j kind : TypeKind) (m n : Bool) → Some (j, m) ≡ Some (kind, n) → j ≡ kind
-kind_is j kind m n e = cc
+kind_is : (x y : TypeKind × Bool) → Some x ≡ Some y → x.0 ≡ y.0
+kind_is x y e = let same : x ≡ y = cc in ap (λ (z : TypeKind × Bool). z.0) same
 
 plain_again : (p : Place) (word : Word) (kind : TypeKind) (nullable : Bool) → plain_type word ≡ Some (kind, nullable) → TypeAgain (type_at p kind)
 unfolding plain_type
-plain_again p w.Int kind n e = subst (λ x. TypeAgain (type_at p x)) (kind_is ty.Int kind false n e) (one_word p ty.Int w.Int false refl law.type_int)
-plain_again p w.Bool kind n e = subst (λ x. TypeAgain (type_at p x)) (kind_is ty.Bool kind false n e) (one_word p ty.Bool w.Bool false refl law.type_bool)
-plain_again p w.String kind n e = subst (λ x. TypeAgain (type_at p x)) (kind_is ty.Text kind true n e) (one_word p ty.Text w.String true refl law.type_text)
-plain_again p w.ChangeEventArgs kind n e = subst (λ x. TypeAgain (type_at p x)) (kind_is ty.Change kind false n e) (one_word p ty.Change w.ChangeEventArgs false refl law.type_change)
-plain_again p w.EventArgs kind n e = subst (λ x. TypeAgain (type_at p x)) (kind_is ty.Args kind false n e) (one_word p ty.Args w.EventArgs false refl law.type_args)
-plain_again p w.MouseEventArgs kind n e = subst (λ x. TypeAgain (type_at p x)) (kind_is ty.Args kind false n e) (one_word p ty.Args w.EventArgs false refl law.type_args)
-plain_again p w.KeyboardEventArgs kind n e = subst (λ x. TypeAgain (type_at p x)) (kind_is ty.Args kind false n e) (one_word p ty.Args w.EventArgs false refl law.type_args)
-plain_again p w.FocusEventArgs kind n e = subst (λ x. TypeAgain (type_at p x)) (kind_is ty.Args kind false n e) (one_word p ty.Args w.EventArgs false refl law.type_args)
+plain_again p w.Int kind n e = subst (λ x. TypeAgain (type_at p x)) (kind_is (ty.Int, false) (kind, n) e) (one_word p ty.Int w.Int false refl law.type_int)
+plain_again p w.Bool kind n e = subst (λ x. TypeAgain (type_at p x)) (kind_is (ty.Bool, false) (kind, n) e) (one_word p ty.Bool w.Bool false refl law.type_bool)
+plain_again p w.String kind n e = subst (λ x. TypeAgain (type_at p x)) (kind_is (ty.Text, true) (kind, n) e) (one_word p ty.Text w.String true refl law.type_text)
+plain_again p w.ChangeEventArgs kind n e = subst (λ x. TypeAgain (type_at p x)) (kind_is (ty.Change, false) (kind, n) e) (one_word p ty.Change w.ChangeEventArgs false refl law.type_change)
+plain_again p w.EventArgs kind n e = subst (λ x. TypeAgain (type_at p x)) (kind_is (ty.Args, false) (kind, n) e) (one_word p ty.Args w.EventArgs false refl law.type_args)
+plain_again p w.MouseEventArgs kind n e = subst (λ x. TypeAgain (type_at p x)) (kind_is (ty.Args, false) (kind, n) e) (one_word p ty.Args w.EventArgs false refl law.type_args)
+plain_again p w.KeyboardEventArgs kind n e = subst (λ x. TypeAgain (type_at p x)) (kind_is (ty.Args, false) (kind, n) e) (one_word p ty.Args w.EventArgs false refl law.type_args)
+plain_again p w.FocusEventArgs kind n e = subst (λ x. TypeAgain (type_at p x)) (kind_is (ty.Args, false) (kind, n) e) (one_word p ty.Args w.EventArgs false refl law.type_args)
 plain_again p _ kind n e = absurd (cc)
 
 name_again : (p : Place) (x : List ℕ) → IsLexeme (k.Name x) → TypeAgain (type_at p (ty.Named x))

@@ -40,12 +40,12 @@ named place name = record { place = place; name = name }
 -- two lists of as many elements, of which each two are related
 pub data Each {A : Type 0} (R : A → A → Type 0) : List A → List A → Type 0 where
   none : Each R [] []
-  more : (a b : A) (as bs : List A) → R a b → Each R as bs → Each R (a ∷ as) (b ∷ bs)
+  more : (a b : A) (xs ys : List A) → R a b → Each R xs ys → Each R (a ∷ xs) (b ∷ ys)
 
 -- neither is there, or both are and are related
 pub data Both {A : Type 0} (R : A → A → Type 0) : Option A → Option A → Type 0 where
-  neither : Both R None None
-  both : (a b : A) → R a b → Both R (Some a) (Some b)
+  absent : Both R None None
+  present : (a b : A) → R a b → Both R (Some a) (Some b)
 
 -- types
 mutual
@@ -58,24 +58,28 @@ mutual
     callback : (a b : TypeExpr) → AlikeTypes a b → AlikeTypeKinds (ty.Callback (Some a)) (ty.Callback (Some b))
     fragment : (a b : TypeExpr) → AlikeTypes a b → AlikeTypeKinds (ty.Fragment (Some a)) (ty.Fragment (Some b))
 
--- expressions and statements
+-- labels
+pub data AlikeLabels : Label → Label → Type 0 where
+  label : (p q : Place) (k : LabelKind) → AlikeLabels (record { place = p; kind = k }) (record { place = q; kind = k })
+
+-- expressions and statements, lists of them, and such as may be absent
 mutual
   pub data Alike : Expr → Expr → Type 0 where
     expression : (p q : Place) (j k : ExprKind) → AlikeKinds j k → Alike (node p j) (node q k)
 
   pub data AlikeKinds : ExprKind → ExprKind → Type 0 where
     same : (k : ExprKind) → AlikeKinds k k
-    interpolated : (xs ys : List TextPart) → Each AlikeTexts xs ys → AlikeKinds (ek.Interpolated xs) (ek.Interpolated ys)
+    interpolated : (xs ys : List TextPart) → AlikeAllTexts xs ys → AlikeKinds (ek.Interpolated xs) (ek.Interpolated ys)
     unary : (op : UnaryOp) (a b : Expr) → Alike a b → AlikeKinds (ek.Unary op a) (ek.Unary op b)
     cast : (op : CastOp) (a b : Expr) → Alike a b → AlikeKinds (ek.Cast op a) (ek.Cast op b)
     binary : (op : BinaryOp) (a b c d : Expr) → Alike a b → Alike c d → AlikeKinds (ek.Binary op a c) (ek.Binary op b d)
     conditional : (a b c d e f : Expr) → Alike a b → Alike c d → Alike e f → AlikeKinds (ek.Conditional a c e) (ek.Conditional b d f)
-    with_parts : (a b : Expr) (xs ys : List WithPart) → Alike a b → Each AlikeParts xs ys → AlikeKinds (ek.With a xs) (ek.With b ys)
+    with_parts : (a b : Expr) (xs ys : List WithPart) → Alike a b → AlikeAllParts xs ys → AlikeKinds (ek.With a xs) (ek.With b ys)
     member : (x : List ℕ) (p q : Place) (a b : Expr) → Alike a b → AlikeKinds (ek.Member a (named p x)) (ek.Member b (named q x))
     null_member : (x : List ℕ) (p q : Place) (a b : Expr) → Alike a b → AlikeKinds (ek.NullMember a (named p x)) (ek.NullMember b (named q x))
-    call : (a b : Expr) (xs ys : List Expr) → Alike a b → Each Alike xs ys → AlikeKinds (ek.Call a xs) (ek.Call b ys)
+    call : (a b : Expr) (xs ys : List Expr) → Alike a b → AlikeAll xs ys → AlikeKinds (ek.Call a xs) (ek.Call b ys)
     index : (a b c d : Expr) → Alike a b → Alike c d → AlikeKinds (ek.Index a c) (ek.Index b d)
-    new_record : (x : List ℕ) (p q : Place) (xs ys : List Expr) → Each Alike xs ys → AlikeKinds (ek.New (named p x) xs) (ek.New (named q x) ys)
+    new_record : (x : List ℕ) (p q : Place) (xs ys : List Expr) → AlikeAll xs ys → AlikeKinds (ek.New (named p x) xs) (ek.New (named q x) ys)
     empty_list : (a b : TypeExpr) → AlikeTypes a b → AlikeKinds (ek.EmptyList a) (ek.EmptyList b)
     static : (owner : StaticType) (x : List ℕ) (p q : Place) → AlikeKinds (ek.Static owner (named p x)) (ek.Static owner (named q x))
     assign : (op : AssignOp) (x : List ℕ) (p q : Place) (a b : Expr) → Alike a b → AlikeKinds (ek.Assign op (named p x) a) (ek.Assign op (named q x) b)
@@ -91,35 +95,60 @@ mutual
     part : (x : List ℕ) (p q : Place) (a b : Expr) → Alike a b → AlikeParts (record { name = named p x; value = a }) (record { name = named q x; value = b })
 
   pub data AlikeBodies : Body → Body → Type 0 where
-    value : (a b : Expr) → Alike a b → AlikeBodies (body.Value a) (body.Value b)
-    block : (xs ys : List Stmt) → Each AlikeStatements xs ys → AlikeBodies (body.Block xs) (body.Block ys)
+    value_body : (a b : Expr) → Alike a b → AlikeBodies (body.Value a) (body.Value b)
+    block_body : (xs ys : List Stmt) → AlikeAllStatements xs ys → AlikeBodies (body.Block xs) (body.Block ys)
 
   pub data AlikeStatements : Stmt → Stmt → Type 0 where
     statement : (p q : Place) (j k : StmtKind) → AlikeForms j k → AlikeStatements (stmt p j) (stmt q k)
 
   pub data AlikeForms : StmtKind → StmtKind → Type 0 where
-    same : (k : StmtKind) → AlikeForms k k
+    same_form : (k : StmtKind) → AlikeForms k k
     local : (x : List ℕ) (p q : Place) (s t : Option TypeExpr) (a b : Option Expr) →
-        Both AlikeTypes s t → Both Alike a b → AlikeForms (st.Local s (named p x) a) (st.Local t (named q x) b)
-    block : (xs ys : List Stmt) → Each AlikeStatements xs ys → AlikeForms (st.Block xs) (st.Block ys)
+        Both AlikeTypes s t → AlikeOption a b → AlikeForms (st.Local s (named p x) a) (st.Local t (named q x) b)
+    block : (xs ys : List Stmt) → AlikeAllStatements xs ys → AlikeForms (st.Block xs) (st.Block ys)
     if_else : (a b : Expr) (s t : Stmt) (m n : Option Stmt) →
-        Alike a b → AlikeStatements s t → Both AlikeStatements m n → AlikeForms (st.If a s m) (st.If b t n)
+        Alike a b → AlikeStatements s t → AlikeBranch m n → AlikeForms (st.If a s m) (st.If b t n)
     while_ : (a b : Expr) (s t : Stmt) → Alike a b → AlikeStatements s t → AlikeForms (st.While a s) (st.While b t)
     for_ : (m n : Option Stmt) (a b c d : Option Expr) (s t : Stmt) →
-        Both AlikeStatements m n → Both Alike a b → Both Alike c d → AlikeStatements s t → AlikeForms (st.For m a c s) (st.For n b d t)
+        AlikeBranch m n → AlikeOption a b → AlikeOption c d → AlikeStatements s t → AlikeForms (st.For m a c s) (st.For n b d t)
     foreach_ : (x : List ℕ) (p q : Place) (a b : Expr) (s t : Stmt) →
         Alike a b → AlikeStatements s t → AlikeForms (st.ForEach (named p x) a s) (st.ForEach (named q x) b t)
-    switch_ : (a b : Expr) (xs ys : List Section) → Alike a b → Each AlikeSections xs ys → AlikeForms (st.Switch a xs) (st.Switch b ys)
-    return_ : (a b : Option Expr) → Both Alike a b → AlikeForms (st.Return a) (st.Return b)
+    switch_ : (a b : Expr) (xs ys : List Section) → Alike a b → AlikeAllSections xs ys → AlikeForms (st.Switch a xs) (st.Switch b ys)
+    return_ : (a b : Option Expr) → AlikeOption a b → AlikeForms (st.Return a) (st.Return b)
     act : (a b : Expr) → Alike a b → AlikeForms (st.Expr a) (st.Expr b)
     await_ : (a b : Expr) → Alike a b → AlikeForms (st.Await a) (st.Await b)
 
   pub data AlikeSections : Section → Section → Type 0 where
     alike_sections : (ls ms : List Label) (xs ys : List Stmt) →
-        Each AlikeLabels ls ms → Each AlikeStatements xs ys → AlikeSections (section ls xs) (section ms ys)
+        Each AlikeLabels ls ms → AlikeAllStatements xs ys → AlikeSections (section ls xs) (section ms ys)
 
-  pub data AlikeLabels : Label → Label → Type 0 where
-    label : (p q : Place) (k : LabelKind) → AlikeLabels (record { place = p; kind = k }) (record { place = q; kind = k })
+  pub data AlikeAll : List Expr → List Expr → Type 0 where
+    no_value : AlikeAll [] []
+    one_value : (a b : Expr) (xs ys : List Expr) → Alike a b → AlikeAll xs ys → AlikeAll (a ∷ xs) (b ∷ ys)
+
+  pub data AlikeAllTexts : List TextPart → List TextPart → Type 0 where
+    no_text : AlikeAllTexts [] []
+    one_text : (a b : TextPart) (xs ys : List TextPart) → AlikeTexts a b → AlikeAllTexts xs ys → AlikeAllTexts (a ∷ xs) (b ∷ ys)
+
+  pub data AlikeAllParts : List WithPart → List WithPart → Type 0 where
+    no_part : AlikeAllParts [] []
+    one_part : (a b : WithPart) (xs ys : List WithPart) → AlikeParts a b → AlikeAllParts xs ys → AlikeAllParts (a ∷ xs) (b ∷ ys)
+
+  pub data AlikeAllStatements : List Stmt → List Stmt → Type 0 where
+    no_statement : AlikeAllStatements [] []
+    one_statement : (a b : Stmt) (xs ys : List Stmt) → AlikeStatements a b → AlikeAllStatements xs ys → AlikeAllStatements (a ∷ xs) (b ∷ ys)
+
+  pub data AlikeAllSections : List Section → List Section → Type 0 where
+    no_section : AlikeAllSections [] []
+    one_section : (a b : Section) (xs ys : List Section) → AlikeSections a b → AlikeAllSections xs ys → AlikeAllSections (a ∷ xs) (b ∷ ys)
+
+  pub data AlikeOption : Option Expr → Option Expr → Type 0 where
+    neither : AlikeOption None None
+    both : (a b : Expr) → Alike a b → AlikeOption (Some a) (Some b)
+
+  pub data AlikeBranch : Option Stmt → Option Stmt → Type 0 where
+    no_branch : AlikeBranch None None
+    branch : (a b : Stmt) → AlikeStatements a b → AlikeBranch (Some a) (Some b)
 
 -- members
 pub data AlikeArguments : Argument → Argument → Type 0 where
@@ -128,9 +157,9 @@ pub data AlikeArguments : Argument → Argument → Type 0 where
 
 pub data AlikeMemberKinds : MemberKind → MemberKind → Type 0 where
   field : (x : List ℕ) (p q : Place) (s t : TypeExpr) (a b : Option Expr) →
-      AlikeTypes s t → Both Alike a b → AlikeMemberKinds (mk.Field s (named p x) a) (mk.Field t (named q x) b)
+      AlikeTypes s t → AlikeOption a b → AlikeMemberKinds (mk.Field s (named p x) a) (mk.Field t (named q x) b)
   parameter : (cascading : Bool) (source : Option (List ℕ)) (x : List ℕ) (p q : Place) (s t : TypeExpr) (a b : Option Expr) →
-      AlikeTypes s t → Both Alike a b →
+      AlikeTypes s t → AlikeOption a b →
       AlikeMemberKinds (mk.Parameter cascading source s (named p x) a) (mk.Parameter cascading source t (named q x) b)
   method : (x : List ℕ) (p q : Place) (s t : Option TypeExpr) (xs ys : List Argument) (a b : Body) →
       Both AlikeTypes s t → Each AlikeArguments xs ys → AlikeBodies a b →

@@ -277,14 +277,14 @@ unfoldable pub local : Option TypeExpr → List ℕ → Option Printed → Kinds
 local a name value = declared a ++ k.Name name ∷ ended (initial value)
 
 unfoldable pub if_else : Printed → Kinds → Option Kinds → Kinds
-if_else a yes no = k.Word w.If ∷ (in_round (whole a) ++ (yes ++ otherwise no))
+if_else a holds fails = k.Word w.If ∷ (in_round (whole a) ++ (holds ++ otherwise fails))
 
 unfoldable pub while_loop : Printed → Kinds → Kinds
 while_loop a body = k.Word w.While ∷ (in_round (whole a) ++ body)
 
 unfoldable pub for_loop : Option Kinds → Option Printed → Option Printed → Kinds → Kinds
-for_loop start condition step body =
-    k.Word w.For ∷ (in_round (started start ++ (ended (optional condition) ++ optional step)) ++ body)
+for_loop start condition next body =
+    k.Word w.For ∷ (in_round (started start ++ (ended (optional condition) ++ optional next)) ++ body)
 
 unfoldable pub foreach_loop : List ℕ → Printed → Kinds → Kinds
 foreach_loop name a body =
@@ -304,9 +304,9 @@ abbrev pub statement_form : StmtKind-F Kinds Printed Kinds Kinds Printed Kinds K
 statement_form (StmtKind-F.Local a name value) = local a name.name value
 statement_form StmtKind-F.Empty = k.Sign s.Semicolon ∷ []
 statement_form (StmtKind-F.StmtKind::Block statements) = in_braces (joined statements)
-statement_form (StmtKind-F.If a yes no) = if_else a yes no
+statement_form (StmtKind-F.If a holds fails) = if_else a holds fails
 statement_form (StmtKind-F.While a body) = while_loop a body
-statement_form (StmtKind-F.For start condition step body) = for_loop start condition step body
+statement_form (StmtKind-F.For start condition next body) = for_loop start condition next body
 statement_form (StmtKind-F.ForEach name a body) = foreach_loop name.name a body
 statement_form (StmtKind-F.Switch a sections) = switch_of a sections
 statement_form StmtKind-F.Break = k.Word w.Break ∷ k.Sign s.Semicolon ∷ []

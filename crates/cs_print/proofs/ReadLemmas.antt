@@ -24,7 +24,7 @@ prints_as R ks ms e h = subst (λ x. Prints R x) e h
 -- the first token
 pub first : (kind : TokenKind) (ks : Kinds) (ts rest : List Token) (R : List Token → Type 0) → Are (kind ∷ ks) ts rest
     → ((t : Token) (us : List Token) → t.kind ≡ kind → Are ks us rest → R (t ∷ us)) → R ts
-first _ _ _ _ R (r.more kind t ks ts rest is later) go = go t ts is later
+first _ _ _ _ R (r.cons kind t ks ts rest is later) go = go t ts is later
 
 -- a single token
 pub single : (kind : TokenKind) (ts rest : List Token) (R : List Token → Type 0) → Are (kind ∷ []) ts rest
@@ -32,7 +32,7 @@ pub single : (kind : TokenKind) (ts rest : List Token) (R : List Token → Type 
 single kind ts rest R are go = first kind [] ts rest R are (λ t us is later. none t us is later)
   where
     none : (t : Token) (us : List Token) → t.kind ≡ kind → Are [] us rest → R (t ∷ us)
-    none t _ is (r.none _) = go t is
+    none t _ is (r.nil _) = go t is
 
 -- those before, and those behind
 pub record Parted (ks ms : Kinds) (ts rest : List Token) : Type 0 where
@@ -41,10 +41,10 @@ pub record Parted (ks ms : Kinds) (ts rest : List Token) : Type 0 where
   pub behind : Are ms us rest
 
 pub parted : (ks ms : Kinds) (ts rest : List Token) → Are (ks ++ ms) ts rest → Parted ks ms ts rest
-parted [] ms ts rest are = record { us = ts; front = r.none ts; behind = are }
+parted [] ms ts rest are = record { us = ts; front = r.nil ts; behind = are }
 parted (kind ∷ ks) ms ts rest are = first kind (ks ++ ms) ts rest (λ xs. Parted (kind ∷ ks) ms xs rest) are (λ t us is later.
     let x = parted ks ms us rest later in
-    record { us = x.us; front = r.more kind t ks us x.us is x.front; behind = x.behind })
+    record { us = x.us; front = r.cons kind t ks us x.us is x.front; behind = x.behind })
 
 -- those before a token, it, and those behind it
 pub record Middle (ks : Kinds) (kind : TokenKind) (ms : Kinds) (ts rest : List Token) : Type 0 where
@@ -87,19 +87,19 @@ pub up_to : (ks : Kinds) (sign : Sign) (ms : Kinds) → is_single sign ≡ true 
 up_to ks sign ms is code more = c.join ks (k.Sign sign ∷ ms) code (signed sign ms is more)
 
 -- tokens of a text: each can be written again, and no two literal texts stand one behind the other
-pub first_part : List Token → Bool
+abbrev pub first_part : List Token → Bool
 first_part [] = false
 first_part (t ∷ ts) = is_part t.kind
 
 pub data AreProper : List Token → Type 0 where
-  nothing : AreProper []
-  proper : (t : Token) (ts : List Token) → IsLexeme t.kind → (is_part t.kind ≡ true → first_part ts ≡ false) → AreProper ts → AreProper (t ∷ ts)
+  no_token : AreProper []
+  one_token : (t : Token) (ts : List Token) → IsLexeme t.kind → (is_part t.kind ≡ true → first_part ts ≡ false) → AreProper ts → AreProper (t ∷ ts)
 
 pub later : (t : Token) (ts : List Token) → AreProper (t ∷ ts) → AreProper ts
-later _ _ (proper t ts lexeme apart more) = more
+later _ _ (one_token t ts is alone more) = more
 
 pub lexeme : (t : Token) (ts : List Token) (kind : TokenKind) → AreProper (t ∷ ts) → t.kind ≡ kind → IsLexeme kind
-lexeme _ _ kind (proper t ts is apart more) e = subst IsLexeme e is
+lexeme _ _ kind (one_token t ts is alone more) e = subst (λ x. IsLexeme x) e is
 
 pub apart : (t : Token) (ts : List Token) → AreProper (t ∷ ts) → is_part t.kind ≡ true → first_part ts ≡ false
-apart _ _ (proper t ts is apart more) = apart
+apart _ _ (one_token t ts is alone more) = alone
