@@ -11,3 +11,5 @@ pub mod LookLemmas
 pub mod SimpleAgain
 pub mod StatementForms
 pub mod StatementsAgain
+pub mod ProperLemmas
+pub mod LambdasAgain
