@@ -13,3 +13,4 @@ pub mod StatementForms
 pub mod StatementsAgain
 pub mod ProperLemmas
 pub mod LambdasAgain
+pub mod MembersAgain

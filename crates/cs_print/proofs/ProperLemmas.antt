@@ -1,5 +1,5 @@
 -- The tokens of a text can be written again.
-use Rattle.std.proofs.Common.{◌≡◌, ℕ, ◌<◌, ◌≤◌, ◌^◌, ◌-◌, ℤ, pos, List, [], ◌∷◌, ◌++◌, length, true, false, Some, None, inl, inr, refl, sym, ap, ◌∙◌, subst, append_assoc, arith}
+use Rattle.std.proofs.Common.{◌≡◌, ℕ, cond, ◌<◌, ◌≤◌, ◌^◌, ◌-◌, ℤ, pos, List, [], ◌∷◌, ◌++◌, length, true, false, Some, None, inl, inr, refl, sym, ap, ◌∙◌, subst, append_assoc, arith}
 use Rattle.std.specs.Prelude.{Bool, eqb, ◌&&◌, nat_lt, nat_le}
 use Rattle.std.specs.declared.option.Option.{Option}
 use Rattle.std.specs.Str.{all_ascii_digits}
@@ -106,3 +106,36 @@ in_text _ x _ _ _ is (g.interpolation_end rest) = absurd (cc)
 
 gap_in_code : (a : Option Around) (text rest : List ℕ) → Stands a None text rest → is_code a ≡ true
 gap_in_code _ _ _ (g.gap a text rest code is) = code
+
+part_kind : (kind : TokenKind) → is_part kind ≡ true → (x : List ℕ) × (kind ≡ k.Part x)
+part_kind (k.Part x) e = (x, refl)
+part_kind _ e = absurd (cc)
+
+-- no literal text stands right behind another
+after_part : (m n : Moment) (pieces : List Piece) (a : Option Around) (x body rest : List ℕ) (j : TokenKind) → j ≡ k.Part x → Stands a (Some j) body rest → a ≡ innermost m.0 → rest ≡ m.2 → Walk Step m pieces n
+    → first_part (tokens_among m.1 pieces) ≡ false
+after_part _ _ _ a x body rest j is stands here there (walk.stay m) = refl
+after_part _ n _ a x body rest j is stands here there (walk.go _ next _ _ pieces (step opened before None text after gap) more) =
+    absurd (false≢true (sym (in_text a x j body rest is stands) ∙ ap is_code here ∙ gap_in_code (innermost opened) text after gap))
+after_part _ n _ a x body rest j is stands here there (walk.go _ next _ _ pieces (step opened before (Some kind) text after token) more) =
+    other (is_part kind) refl
+  where
+    other : (b : Bool) → is_part kind ≡ b → is_part kind ≡ false
+    other false e = e
+    other true e =
+        let y = part_kind kind e in
+        absurd (part_no_part a (innermost opened) x y.0 j kind body text rest after is y.1 stands token there)
+
+proper-walk : (m n : Moment) (pieces : List Piece) → Walk Step m pieces n → AreProper (tokens_among m.1 pieces)
+proper-walk _ _ _ (walk.stay m) = rd.no_token
+proper-walk _ n _ (walk.go _ _ _ _ pieces (step opened before None text rest gap) more) = proper-walk _ n pieces more
+proper-walk _ n _ (walk.go _ _ _ _ pieces (step opened before (Some kind) text rest stands) more) =
+    rd.one_token _ _ (is-lexeme (innermost opened) kind text rest stands) (apart kind stands more) (proper-walk _ n pieces more)
+  where
+    apart : (kind : TokenKind) → Stands (innermost opened) (Some kind) text rest → Walk Step (behind_kind (Some kind) (place_after before) opened, before ++ text, rest) pieces n → is_part kind ≡ true
+        → first_part (tokens_among (before ++ text) pieces) ≡ false
+    apart (k.Part x) stands more e = after_part _ n pieces (innermost opened) x text rest (k.Part x) refl stands refl refl more
+    apart _ stands more e = absurd (cc)
+
+pub proper-tokens : (text : List ℕ) (tokens : List Token) → Spells text tokens → AreProper tokens
+proper-tokens text tokens spells = subst (λ x. AreProper x) (sym spells.are) (proper-walk _ _ spells.pieces spells.laid)
