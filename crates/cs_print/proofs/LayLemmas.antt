@@ -33,21 +33,8 @@ use Rattle.cs_print.specs.Printed.{Kinds}
 use Rattle.cs_print.specs.Layout.{quoted, in_part, token_text, gap_behind, code_text}
 use Rattle.cs_print.proofs.CodeKinds.{is_single, IsSimple, is_part, begins_part, IsCode, AreParts}
 use Rattle.cs_print.proofs.CodeKinds as c
+use Rattle.cs_print.proofs.TextLaws.{text_none, text_join}
 use Rattle.cs_print.proofs.QuoteLemmas.{digits-run, number-again, quoted-again, parts-again, no-unit-quote, no-unit-hole}
-
--- the text of tokens
-
-pub text_none : code_text [] ≡ []
-unfolding code_text
-text_none = refl
-
-pub text_more : (kind : TokenKind) (ks : Kinds) → code_text (kind ∷ ks) ≡ token_text kind ++ (gap_behind kind ++ code_text ks)
-unfolding code_text
-text_more kind ks = append_assoc (token_text kind) (gap_behind kind) (code_text ks)
-
-pub text_join : (ks ms : Kinds) → code_text (ks ++ ms) ≡ code_text ks ++ code_text ms
-unfolding code_text
-text_join ks ms = flat_map-append (λ kind. token_text kind ++ gap_behind kind) ks ms
 
 -- Lays m ks n: from a moment, tokens of these kinds stand one behind another up to the other moment.
 pub data Lays : Moment → Kinds → Moment → Type 0 where

@@ -1,6 +1,7 @@
 pub mod PrintedLaws
 pub mod CodeKinds
 pub mod QuoteLemmas
+pub mod TextLaws
 pub mod LayLemmas
 pub mod ReadLemmas
 pub mod TypesAgain
@@ -14,3 +15,4 @@ pub mod StatementsAgain
 pub mod ProperLemmas
 pub mod LambdasAgain
 pub mod MembersAgain
+pub mod MemberForms

@@ -11,7 +11,12 @@ use Rattle.cs_ast.specs.declared.expression.Body.{Body, out-Body}
 use Rattle.cs_ast.specs.declared.expression.Body.TheOpen.{Body-F}
 use Rattle.cs_ast.specs.declared.expression.Body.TheVariants as by
 use Rattle.cs_ast.specs.declared.expression.Expr.{Expr}
+use Rattle.cs_ast.specs.declared.expression.ExprKind.{ExprKind}
+use Rattle.cs_ast.specs.declared.expression.Section.{Section}
 use Rattle.cs_ast.specs.declared.expression.Stmt.{Stmt}
+use Rattle.cs_ast.specs.declared.expression.StmtKind.{StmtKind}
+use Rattle.cs_ast.specs.declared.expression.TextPart.{TextPart}
+use Rattle.cs_ast.specs.declared.expression.WithPart.{WithPart}
 use Rattle.cs_ast.specs.declared.member.Argument.{Argument}
 use Rattle.cs_ast.specs.declared.member.Member.{Member}
 use Rattle.cs_ast.specs.declared.member.MemberKind.{MemberKind}
@@ -147,7 +152,7 @@ pub record FoundMethod (b : Body) (rest : List Token) : Type 0 where
   pub again : Prints (ReadsMethod b) (method_body b)
   pub proper : AreProper rest
 
-method_look : Body-F Body _ _ _ Expr _ Stmt _ → Kinds
+method_look : Body-F Body ExprKind StmtKind TextPart Expr Section Stmt WithPart → Kinds
 method_look x = elim x [
   | Body-F.Value a ↦ k.Sign s.Arrow ∷ ended (whole (printed a))
   | Body-F.Body::Block body ↦ in_braces (p.joined (map p.statement_kinds body))

@@ -7,7 +7,7 @@ use Rattle.cs_ast.specs.declared.cs_type.TypeExpr.{TypeExpr}
 use Rattle.cs_ast.specs.declared.cs_type.TypeKind.{TypeKind}
 use Rattle.cs_ast.specs.declared.cs_type.TypeKind.TheOpen.{TypeKind-F}
 use Rattle.cs_ast.specs.declared.cs_type.TypeKind.TheVariants as tk
-use Rattle.cs_ast.specs.declared.cs_type.TypeKind.TheViews.{roll-TypeKind}
+use Rattle.cs_ast.specs.declared.cs_type.TypeKind.TheViews.{out-TypeKind, roll-TypeKind, roll-out-TypeKind}
 use Rattle.cs_ast.specs.declared.cs_type.TypeKind.TheFolds.{fold_out-TypeExpr, fold-roll-TypeKind, map-TypeKind}
 use Rattle.cs_ast.specs.declared.expression.Body.{Body}
 use Rattle.cs_ast.specs.declared.expression.Body.TheOpen.{Body-F, ExprKind-F, StmtKind-F, TextPart-F}
@@ -84,6 +84,10 @@ type_change = at_type (tk.Change) (TypeKind-F.Change) (tk.rolls-Change)
 
 pub type_args : type_kind_kinds (tk.Args) ≡ k.Word w.EventArgs ∷ []
 type_args = at_type (tk.Args) (TypeKind-F.Args) (tk.rolls-Args)
+
+-- what a type is printed as, by its form
+pub type_look : (kind : TypeKind) → type_kind_kinds kind ≡ type_form (map-TypeKind TypeKind TypeExpr Kinds Kinds type_kind_kinds type_kinds (out-TypeKind kind))
+type_look kind = at_type kind (out-TypeKind kind) (roll-out-TypeKind kind)
 
 -- expressions and statements
 

@@ -38,6 +38,10 @@ gap_behind (k.Sign s.InterpolationStart) = []
 gap_behind (k.Sign s.HoleClose) = []
 gap_behind _ = codes " "
 
+-- a token with what is behind it
+abbrev pub laid : TokenKind → List ℕ
+laid kind = token_text kind ++ gap_behind kind
+
 -- tokens one behind another
 unfoldable pub code_text : List TokenKind → List ℕ
-code_text = flat_map (λ kind. token_text kind ++ gap_behind kind)
+code_text = flat_map laid

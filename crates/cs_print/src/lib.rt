@@ -1,2 +1,4 @@
 //! Prints C# code.
 #![tactic(auto)]
+
+mod tokens;
