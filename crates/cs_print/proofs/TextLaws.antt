@@ -1,10 +1,15 @@
 -- The text of tokens, part by part.
-use Rattle.std.proofs.Common.{◌≡◌, ℕ, List, [], ◌∷◌, ◌++◌, refl, sym, ap, ◌∙◌, append_assoc}
+use Rattle.std.proofs.Common.{◌≡◌, ℕ, List, [], ◌∷◌, ◌++◌, map, refl, sym, ap, ◌∙◌, append_assoc}
 use Rattle.std.specs.List.{flat_map}
+use Rattle.std.proofs.lemmas.List.{append-nil}
 use Rattle.std.proofs.lemmas.List.Concat.{flat_map-append}
+use Rattle.std.proofs.lemmas.List.Folds.{flat_map-map}
+use Rattle.cs_ast.specs.declared.expression.Expr.{Expr}
 use Rattle.cs_token.specs.declared.token.TokenKind.{TokenKind}
-use Rattle.cs_print.specs.Printed.{Kinds, joined}
-use Rattle.cs_print.specs.Layout.{laid, code_text}
+use Rattle.cs_print.specs.Printed.{Kinds, joined, behind_commas, whole, printed}
+use Rattle.cs_token.specs.declared.token.TokenKind.TheVariants as k
+use Rattle.cs_token.specs.declared.token.Sign.TheVariants as s
+use Rattle.cs_print.specs.Layout.{laid, code_text, token_text, gap_behind, part_text}
 
 pub text_none : code_text [] ≡ []
 unfolding code_text
@@ -22,3 +27,35 @@ text_join ks ms = flat_map-append laid ks ms
 pub text_behind : (old middle new : List ℕ) (ks ms : Kinds) → middle ≡ old ++ code_text ks → new ≡ middle ++ code_text ms → new ≡ old ++ code_text (ks ++ ms)
 text_behind old middle new ks ms first second =
     second ∙ ap (λ x. x ++ code_text ms) first ∙ append_assoc old (code_text ks) (code_text ms) ∙ ap (λ x. old ++ x) (sym (text_join ks ms))
+
+-- a token alone
+pub text_alone : (old new : List ℕ) (kind : TokenKind) → new ≡ old ++ laid kind → new ≡ old ++ code_text (kind ∷ [])
+unfolding code_text
+text_alone old new kind e = e ∙ ap (λ x. old ++ x) (sym (append-nil (laid kind)))
+
+-- a token, and what stands behind it
+pub text_then : (old middle new : List ℕ) (kind : TokenKind) (ks : Kinds) → middle ≡ old ++ laid kind → new ≡ middle ++ code_text ks → new ≡ old ++ code_text (kind ∷ ks)
+text_then old middle new kind ks one rest = text_behind old middle new (kind ∷ []) ks (text_alone old middle kind one) rest
+
+-- nothing
+pub text_nothing : (old : List ℕ) → old ≡ old ++ code_text []
+text_nothing old = sym (ap (λ x. old ++ x) text_none ∙ append-nil old)
+
+pub text_part : (x : List ℕ) → part_text x ≡ laid (k.Part x)
+unfolding token_text gap_behind
+text_part x = sym (append-nil (part_text x))
+
+-- lists
+
+flat_text : {X : Type 0} (f : X → Kinds) (xs : List X) → code_text (flat_map f xs) ≡ flat_map (λ x. code_text (f x)) xs
+flat_text f [] = text_none
+flat_text f (x ∷ xs) = text_join (f x) (flat_map f xs) ∙ ap (λ y. code_text (f x) ++ y) (flat_text f xs)
+
+pub joined_text : {X : Type 0} (f : X → Kinds) (xs : List X) → code_text (joined (map f xs)) ≡ flat_map (λ x. code_text (f x)) xs
+joined_text f xs = ap code_text (flat_map-map (λ x. x) f xs) ∙ flat_text f xs
+
+pub commas_text : {X : Type 0} (f : X → Kinds) (xs : List X) → code_text (behind_commas (map f xs)) ≡ flat_map (λ x. code_text (k.Sign s.Comma ∷ f x)) xs
+commas_text f xs = ap code_text (flat_map-map (λ ks. k.Sign s.Comma ∷ ks) f xs) ∙ flat_text (λ x. k.Sign s.Comma ∷ f x) xs
+
+pub values_text : (xs : List Expr) → code_text (behind_commas (map whole (map printed xs))) ≡ flat_map (λ x. code_text (k.Sign s.Comma ∷ whole (printed x))) xs
+values_text xs = commas_text whole (map printed xs) ∙ flat_map-map (λ x. code_text (k.Sign s.Comma ∷ whole x)) printed xs

@@ -22,12 +22,19 @@ quoted c =
 abbrev pub in_part : ℕ → List ℕ
 in_part c = if (c == 123) || (c == 125) then c ∷ c ∷ [] else quoted c
 
+-- a text, and a literal part of an interpolated text
+abbrev pub quoted_text : List ℕ → List ℕ
+quoted_text = flat_map quoted
+
+abbrev pub part_text : List ℕ → List ℕ
+part_text = flat_map in_part
+
 -- a token
 unfoldable pub token_text : TokenKind → List ℕ
 token_text (k.Name name) = name
 token_text (k.Number n) = signed_decimal n
-token_text (k.Text text) = 34 ∷ (flat_map quoted text ++ 34 ∷ [])
-token_text (k.Part text) = flat_map in_part text
+token_text (k.Text text) = 34 ∷ (quoted_text text ++ 34 ∷ [])
+token_text (k.Part text) = part_text text
 token_text (k.Word word) = spelling word
 token_text (k.Sign sign) = mark sign
 

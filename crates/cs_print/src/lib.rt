@@ -1,4 +1,6 @@
 //! Prints C# code.
 #![tactic(auto)]
 
+mod operators;
 mod tokens;
+mod types;

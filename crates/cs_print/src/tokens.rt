@@ -1,35 +1,34 @@
 // Writes single tokens, each with the blank behind it.
 ghost use Rattle.std.specs.Prelude.{◌≡◌, ◌++◌, OnOk};
-ghost use Rattle.std.specs.List.{flat_map};
 ghost use Rattle.cs_token.specs.declared.token.TokenKind.TheVariants as k;
-ghost use Rattle.cs_print.specs.Layout.{laid, quoted as quoted_text, in_part};
+ghost use Rattle.cs_print.specs.Layout.{quoted as quoted_character, in_part, quoted_text, part_text, laid};
 
-use cs_token::{Sign as Mark, Word};
-use text_core::{Oom, Txt, show_i32};
+use cs_token::{Sign, Word};
 use std::alloc::Global;
+use text_core::{Oom, Txt, show_i32};
 
-fn characters(out: &mut Txt, text: &[char]) -> Result<(), Oom>
+fn push_all(out: &mut Txt, text: &[char]) -> Result<(), Oom>
     ensures { OnOk result (out.new ≡ out.old ++ text.now) }
 {
-    for c in text {
-        out.push(*c)?;
+    for character in text {
+        out.push(*character)?;
     }
     Ok(())
 }
 
 #[tactic(auto, unfolding(crate::specs::Layout::token_text, crate::specs::Layout::gap_behind))]
-pub fn sign(out: &mut Txt, sign: Mark) -> Result<(), Oom>
+pub fn push_sign(out: &mut Txt, sign: Sign) -> Result<(), Oom>
     ensures { OnOk result (out.new ≡ out.old ++ laid (k.Sign sign)) }
 {
-    characters(out, sign.mark())?;
+    push_all(out, sign.mark())?;
     match sign {
-        Mark::InterpolationStart | Mark::HoleClose => Ok(()),
+        Sign::InterpolationStart | Sign::HoleClose => Ok(()),
         _ => out.push(' '),
     }
 }
 
-#[tactic(auto, unfolding(crate::specs::Layout::token_text, crate::specs::Layout::gap_behind))]
-pub fn word(out: &mut Txt, word: Word) -> Result<(), Oom>
+#[tactic(auto, using(cs_token::proofs::WordLemmas::ascii_spelling), unfolding(crate::specs::Layout::token_text, crate::specs::Layout::gap_behind))]
+pub fn push_word(out: &mut Txt, word: Word) -> Result<(), Oom>
     ensures { OnOk result (out.new ≡ out.old ++ laid (k.Word word)) }
 {
     out.push_str(word.spelling())?;
@@ -37,7 +36,7 @@ pub fn word(out: &mut Txt, word: Word) -> Result<(), Oom>
 }
 
 #[tactic(auto, unfolding(crate::specs::Layout::token_text, crate::specs::Layout::gap_behind))]
-pub fn name(out: &mut Txt, name: &Txt) -> Result<(), Oom>
+pub fn push_name(out: &mut Txt, name: &Txt) -> Result<(), Oom>
     ensures { OnOk result (out.new ≡ out.old ++ laid (k.Name name.now)) }
 {
     out.push_text(name)?;
@@ -45,7 +44,7 @@ pub fn name(out: &mut Txt, name: &Txt) -> Result<(), Oom>
 }
 
 #[tactic(auto, unfolding(crate::specs::Layout::token_text, crate::specs::Layout::gap_behind))]
-pub fn number(alloc: Global, out: &mut Txt, number: i32) -> Result<(), Oom>
+pub fn push_number(alloc: Global, out: &mut Txt, number: i32) -> Result<(), Oom>
     ensures { OnOk result (out.new ≡ out.old ++ laid (k.Number number)) }
 {
     let digits = show_i32(alloc, number)?;
@@ -53,48 +52,62 @@ pub fn number(alloc: Global, out: &mut Txt, number: i32) -> Result<(), Oom>
     out.push(' ')
 }
 
-/// Writes a character of a text.
-fn quoted(out: &mut Txt, c: char) -> Result<(), Oom>
-    ensures { OnOk result (out.new ≡ out.old ++ quoted_text c) }
+/// A character of a text.
+fn push_quoted(out: &mut Txt, character: char) -> Result<(), Oom>
+    ensures { OnOk result (out.new ≡ out.old ++ quoted_character character) }
 {
-    match c {
+    match character {
         '"' => out.push_str("\\\""),
         '\\' => out.push_str("\\\\"),
         '\n' => out.push_str("\\n"),
         '\'' => out.push_str("\\u0027"),
-        _ => out.push(c),
+        _ => out.push(character),
     }
 }
 
-fn part_character(out: &mut Txt, c: char) -> Result<(), Oom>
-    ensures { OnOk result (out.new ≡ out.old ++ in_part c) }
+/// A character of a literal part of an interpolated text.
+fn push_in_part(out: &mut Txt, character: char) -> Result<(), Oom>
+    ensures { OnOk result (out.new ≡ out.old ++ in_part character) }
 {
-    if c == '{' || c == '}' {
-        out.push(c)?;
-        return out.push(c);
+    if character == '{' || character == '}' {
+        out.push(character)?;
+        return out.push(character);
     }
-    quoted(out, c)
+    push_quoted(out, character)
+}
+
+fn push_all_quoted(out: &mut Txt, text: &Txt) -> Result<(), Oom>
+    ensures { OnOk result (out.new ≡ out.old ++ quoted_text text.now) }
+{
+    for character in text.as_str().chars() {
+        push_quoted(out, character)?;
+    }
+    Ok(())
+}
+
+fn push_all_in_part(out: &mut Txt, text: &Txt) -> Result<(), Oom>
+    ensures { OnOk result (out.new ≡ out.old ++ part_text text.now) }
+{
+    for character in text.as_str().chars() {
+        push_in_part(out, character)?;
+    }
+    Ok(())
 }
 
 #[tactic(auto, unfolding(crate::specs::Layout::token_text, crate::specs::Layout::gap_behind))]
-pub fn text(out: &mut Txt, text: &Txt) -> Result<(), Oom>
+pub fn push_text(out: &mut Txt, text: &Txt) -> Result<(), Oom>
     ensures { OnOk result (out.new ≡ out.old ++ laid (k.Text text.now)) }
 {
     out.push('"')?;
-    for c in text.as_str().chars() {
-        quoted(out, c)?;
-    }
+    push_all_quoted(out, text)?;
     out.push('"')?;
     out.push(' ')
 }
 
-/// Writes a literal part of an interpolated text.
-#[tactic(auto, unfolding(crate::specs::Layout::token_text, crate::specs::Layout::gap_behind))]
-pub fn part(out: &mut Txt, text: &Txt) -> Result<(), Oom>
+/// A literal part of an interpolated text.
+#[tactic(auto, using(crate::proofs::TextLaws::text_part))]
+pub fn push_part(out: &mut Txt, text: &Txt) -> Result<(), Oom>
     ensures { OnOk result (out.new ≡ out.old ++ laid (k.Part text.now)) }
 {
-    for c in text.as_str().chars() {
-        part_character(out, c)?;
-    }
-    Ok(())
+    push_all_in_part(out, text)
 }
