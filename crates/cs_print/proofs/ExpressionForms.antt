@@ -295,8 +295,8 @@ unfolding static_type static_word
 static_is sy.Int = refl
 static_is _ = refl
 
-static_form : (q r : Place) (owner : StaticType) (n : List ℕ) → IsLexeme (k.Name n) → Again (node q (ek.Static owner (al.named r n))) (p.static owner n)
-unfolding p.static
+static_form : (q r : Place) (owner : StaticType) (n : List ℕ) → IsLexeme (k.Name n) → Again (node q (ek.Static owner (al.named r n))) (p.static_member owner n)
+unfolding p.static_member
 static_form q r owner n is = record {
   code = worded (static_word owner) _ (signed s.Dot _ refl (named n [] is c.none));
   reads = λ l ts rest low are. first (k.Word (static_word owner)) _ ts rest (λ xs. Reads l (node q (ek.Static owner (al.named r n))) xs rest) are (λ t us has more.

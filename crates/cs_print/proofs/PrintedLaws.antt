@@ -85,6 +85,19 @@ type_change = at_type (tk.Change) (TypeKind-F.Change) (tk.rolls-Change)
 pub type_args : type_kind_kinds (tk.Args) ≡ k.Word w.EventArgs ∷ []
 type_args = at_type (tk.Args) (TypeKind-F.Args) (tk.rolls-Args)
 
+-- where the argument may be absent
+pub type_callback_none : (kind : TypeKind) (o : Option TypeExpr) → kind ≡ tk.Callback o → o ≡ None → type_kind_kinds kind ≡ k.Word w.EventCallback ∷ []
+type_callback_none kind o is none = ap type_kind_kinds (is ∙ ap (λ (x : Option TypeExpr). tk.Callback x) none) ∙ type_callback
+
+pub type_callback_some : (kind : TypeKind) (o : Option TypeExpr) (a : TypeExpr) → kind ≡ tk.Callback o → o ≡ Some a → type_kind_kinds kind ≡ of_type w.EventCallback (type_kinds a)
+type_callback_some kind o a is some = ap type_kind_kinds (is ∙ ap (λ (x : Option TypeExpr). tk.Callback x) some) ∙ type_callback_of a
+
+pub type_fragment_none : (kind : TypeKind) (o : Option TypeExpr) → kind ≡ tk.Fragment o → o ≡ None → type_kind_kinds kind ≡ k.Word w.RenderFragment ∷ []
+type_fragment_none kind o is none = ap type_kind_kinds (is ∙ ap (λ (x : Option TypeExpr). tk.Fragment x) none) ∙ type_fragment
+
+pub type_fragment_some : (kind : TypeKind) (o : Option TypeExpr) (a : TypeExpr) → kind ≡ tk.Fragment o → o ≡ Some a → type_kind_kinds kind ≡ of_type w.RenderFragment (type_kinds a)
+type_fragment_some kind o a is some = ap type_kind_kinds (is ∙ ap (λ (x : Option TypeExpr). tk.Fragment x) some) ∙ type_fragment_of a
+
 -- what a type is printed as, by its form
 pub type_look : (kind : TypeKind) → type_kind_kinds kind ≡ type_form (map-TypeKind TypeKind TypeExpr Kinds Kinds type_kind_kinds type_kinds (out-TypeKind kind))
 type_look kind = at_type kind (out-TypeKind kind) (roll-out-TypeKind kind)
@@ -175,7 +188,7 @@ expr_new_record n bs = at_kind (ek.New n bs) (ExprKind-F.New n bs) (ek.rolls-New
 pub expr_empty_list : (a : TypeExpr) → printed_kind (ek.EmptyList a) ≡ p.empty_list a
 expr_empty_list a = at_kind (ek.EmptyList a) (ExprKind-F.EmptyList a) (ek.rolls-EmptyList a)
 
-pub expr_static : (owner : StaticType) (n : Ident) → printed_kind (ek.Static owner n) ≡ p.static owner n.name
+pub expr_static : (owner : StaticType) (n : Ident) → printed_kind (ek.Static owner n) ≡ p.static_member owner n.name
 expr_static owner n = at_kind (ek.Static owner n) (ExprKind-F.Static owner n) (ek.rolls-Static owner n)
 
 pub expr_assign : (op : AssignOp) (n : Ident) (a : Expr) → printed_kind (ek.Assign op n a) ≡ p.assign op n.name (printed a)

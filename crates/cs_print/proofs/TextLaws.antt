@@ -5,8 +5,15 @@ use Rattle.std.proofs.lemmas.List.{append-nil}
 use Rattle.std.proofs.lemmas.List.Concat.{flat_map-append}
 use Rattle.std.proofs.lemmas.List.Folds.{flat_map-map}
 use Rattle.cs_ast.specs.declared.expression.Expr.{Expr}
+use Rattle.cs_ast.specs.declared.expression.Label.{Label}
+use Rattle.cs_ast.specs.declared.expression.Section.{Section}
+use Rattle.cs_ast.specs.declared.expression.Stmt.{Stmt}
+use Rattle.cs_ast.specs.declared.expression.TextPart.{TextPart}
+use Rattle.cs_ast.specs.declared.expression.WithPart.{WithPart}
+use Rattle.cs_ast.specs.declared.member.Argument.{Argument}
+use Rattle.cs_ast.specs.declared.member.Member.{Member}
 use Rattle.cs_token.specs.declared.token.TokenKind.{TokenKind}
-use Rattle.cs_print.specs.Printed.{Kinds, joined, behind_commas, whole, printed}
+use Rattle.cs_print.specs.Printed.{Kinds, joined, behind_commas, whole, printed, label_kinds, text_kinds, statement_kinds, section_kinds, part_kinds, argument_kinds, member_kinds}
 use Rattle.cs_token.specs.declared.token.TokenKind.TheVariants as k
 use Rattle.cs_token.specs.declared.token.Sign.TheVariants as s
 use Rattle.cs_print.specs.Layout.{laid, code_text, token_text, gap_behind, part_text}
@@ -59,3 +66,24 @@ commas_text f xs = ap code_text (flat_map-map (λ ks. k.Sign s.Comma ∷ ks) f x
 
 pub values_text : (xs : List Expr) → code_text (behind_commas (map whole (map printed xs))) ≡ flat_map (λ x. code_text (k.Sign s.Comma ∷ whole (printed x))) xs
 values_text xs = commas_text whole (map printed xs) ∙ flat_map-map (λ x. code_text (k.Sign s.Comma ∷ whole x)) printed xs
+
+pub labels_text : (xs : List Label) → code_text (joined (map (λ label. label_kinds label.kind) xs)) ≡ flat_map (λ label. code_text (label_kinds label.kind)) xs
+labels_text xs = joined_text (λ (label : Label). label_kinds label.kind) xs
+
+pub texts_text : (xs : List TextPart) → code_text (joined (map text_kinds xs)) ≡ flat_map (λ x. code_text (text_kinds x)) xs
+texts_text xs = joined_text text_kinds xs
+
+pub statements_text : (xs : List Stmt) → code_text (joined (map statement_kinds xs)) ≡ flat_map (λ x. code_text (statement_kinds x)) xs
+statements_text xs = joined_text statement_kinds xs
+
+pub sections_text : (xs : List Section) → code_text (joined (map section_kinds xs)) ≡ flat_map (λ x. code_text (section_kinds x)) xs
+sections_text xs = joined_text section_kinds xs
+
+pub parts_text : (xs : List WithPart) → code_text (behind_commas (map part_kinds xs)) ≡ flat_map (λ x. code_text (k.Sign s.Comma ∷ part_kinds x)) xs
+parts_text xs = commas_text part_kinds xs
+
+pub arguments_text : (xs : List Argument) → code_text (behind_commas (map argument_kinds xs)) ≡ flat_map (λ x. code_text (k.Sign s.Comma ∷ argument_kinds x)) xs
+arguments_text xs = commas_text argument_kinds xs
+
+pub members_text : (xs : List Member) → code_text (joined (map (λ member. member_kinds member.kind) xs)) ≡ flat_map (λ member. code_text (member_kinds member.kind)) xs
+members_text xs = joined_text (λ (member : Member). member_kinds member.kind) xs

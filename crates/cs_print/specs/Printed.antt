@@ -191,8 +191,8 @@ new_record name bs = postfix (k.Word w.New ∷ k.Name name ∷ in_round (listed 
 unfoldable pub empty_list : TypeExpr → Printed
 empty_list a = postfix (of_type w.ImmutableList (type_kinds a) ++ k.Sign s.Dot ∷ k.Name (codes "Empty") ∷ [])
 
-unfoldable pub static : StaticType → List ℕ → Printed
-static owner name = postfix (k.Word (static_word owner) ∷ k.Sign s.Dot ∷ k.Name name ∷ [])
+unfoldable pub static_member : StaticType → List ℕ → Printed
+static_member owner name = postfix (k.Word (static_word owner) ∷ k.Sign s.Dot ∷ k.Name name ∷ [])
 
 unfoldable pub interpolated : List Kinds → Printed
 interpolated parts = postfix (k.Sign s.InterpolationStart ∷ (joined parts ++ k.Sign s.InterpolationEnd ∷ []))
@@ -226,7 +226,7 @@ expression_form (ExprKind-F.Call a bs) = call a bs
 expression_form (ExprKind-F.Index a b) = index a b
 expression_form (ExprKind-F.New name bs) = new_record name.name bs
 expression_form (ExprKind-F.EmptyList a) = empty_list a
-expression_form (ExprKind-F.Static owner name) = static owner name.name
+expression_form (ExprKind-F.Static owner name) = static_member owner name.name
 expression_form (ExprKind-F.Assign op name a) = assign op name.name a
 expression_form (ExprKind-F.Step op name) = step op name.name
 expression_form (ExprKind-F.Lambda name b) = lambda name b

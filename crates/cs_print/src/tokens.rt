@@ -1,6 +1,9 @@
 // Writes single tokens, each with the blank behind it.
-ghost use Rattle.std.specs.Prelude.{◌≡◌, ◌++◌, OnOk};
+ghost use Rattle.std.specs.Prelude.{◌≡◌, ◌++◌, OnOk, IfOk, IsTrue, pos};
+ghost use Rattle.std.specs.Fmt.{decimal};
+ghost use Rattle.text_core.specs.Ascii.{is_ascii};
 ghost use Rattle.cs_token.specs.declared.token.TokenKind.TheVariants as k;
+ghost use Rattle.cs_token.specs.Words.{spelling};
 ghost use Rattle.cs_print.specs.Layout.{quoted as quoted_character, in_part, quoted_text, part_text, laid};
 
 use cs_token::{Sign, Word};
@@ -27,11 +30,18 @@ pub fn push_sign(out: &mut Txt, sign: Sign) -> Result<(), Oom>
     }
 }
 
-#[tactic(auto, using(cs_token::proofs::WordLemmas::ascii_spelling), unfolding(crate::specs::Layout::token_text, crate::specs::Layout::gap_behind))]
+fn push_spelling(out: &mut Txt, word: Word) -> Result<(), Oom>
+    ensures { OnOk result (out.new ≡ out.old ++ spelling word) }
+{
+    out.push_str(word.spelling())?;
+    Ok(())
+}
+
+#[tactic(auto, unfolding(crate::specs::Layout::token_text, crate::specs::Layout::gap_behind))]
 pub fn push_word(out: &mut Txt, word: Word) -> Result<(), Oom>
     ensures { OnOk result (out.new ≡ out.old ++ laid (k.Word word)) }
 {
-    out.push_str(word.spelling())?;
+    push_spelling(out, word)?;
     out.push(' ')
 }
 
@@ -43,11 +53,38 @@ pub fn push_name(out: &mut Txt, name: &Txt) -> Result<(), Oom>
     out.push(' ')
 }
 
+/// A name that is always the same.
+#[tactic(auto, unfolding(crate::specs::Layout::token_text, crate::specs::Layout::gap_behind))]
+pub fn push_fixed(out: &mut Txt, name: &str) -> Result<(), Oom>
+    requires { IsTrue (is_ascii name.now) }
+    ensures { OnOk result (out.new ≡ out.old ++ laid (k.Name name.now)) }
+{
+    out.push_str(name)?;
+    out.push(' ')?;
+    Ok(())
+}
+
 #[tactic(auto, unfolding(crate::specs::Layout::token_text, crate::specs::Layout::gap_behind))]
 pub fn push_number(alloc: Global, out: &mut Txt, number: i32) -> Result<(), Oom>
     ensures { OnOk result (out.new ≡ out.old ++ laid (k.Number number)) }
 {
     let digits = show_i32(alloc, number)?;
+    out.push_text(&digits)?;
+    out.push(' ')
+}
+
+fn show_u32(alloc: Global, number: u32) -> Result<Txt, Oom>
+    ensures { IfOk result (λ text. text ≡ decimal number) }
+{
+    let digits = number.to_string(alloc)?;
+    Ok(Txt::from(digits))
+}
+
+#[tactic(auto, unfolding(crate::specs::Layout::token_text, crate::specs::Layout::gap_behind))]
+pub fn push_unsigned(alloc: Global, out: &mut Txt, number: u32) -> Result<(), Oom>
+    ensures { OnOk result (out.new ≡ out.old ++ laid (k.Number (pos number))) }
+{
+    let digits = show_u32(alloc, number)?;
     out.push_text(&digits)?;
     out.push(' ')
 }

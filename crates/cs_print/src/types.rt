@@ -17,7 +17,7 @@ pub fn push_type(out: &mut Txt, cs_type: &TypeExpr) -> Result<(), Oom>
 }
 
 #[cycle(types)]
-#[tactic(auto, using(crate::proofs::TextLaws::text_alone, crate::proofs::PrintedLaws::type_int, crate::proofs::PrintedLaws::type_bool, crate::proofs::PrintedLaws::type_text, crate::proofs::PrintedLaws::type_named, crate::proofs::PrintedLaws::type_list, crate::proofs::PrintedLaws::type_callback, crate::proofs::PrintedLaws::type_callback_of, crate::proofs::PrintedLaws::type_fragment, crate::proofs::PrintedLaws::type_fragment_of, crate::proofs::PrintedLaws::type_change, crate::proofs::PrintedLaws::type_args))]
+#[tactic(auto, using(crate::proofs::TextLaws::text_alone, crate::proofs::PrintedLaws::type_int, crate::proofs::PrintedLaws::type_bool, crate::proofs::PrintedLaws::type_text, crate::proofs::PrintedLaws::type_named, crate::proofs::PrintedLaws::type_list, crate::proofs::PrintedLaws::type_callback_none, crate::proofs::PrintedLaws::type_callback_some, crate::proofs::PrintedLaws::type_fragment_none, crate::proofs::PrintedLaws::type_fragment_some, crate::proofs::PrintedLaws::type_change, crate::proofs::PrintedLaws::type_args))]
 fn push_kind(out: &mut Txt, kind: &TypeKind) -> Result<(), Oom>
     ensures { OnOk result (out.new ≡ out.old ++ code_text (type_kind_kinds kind.now)) }
 {
@@ -39,7 +39,7 @@ fn push_kind(out: &mut Txt, kind: &TypeKind) -> Result<(), Oom>
 /// A type in the brackets of another.
 #[cycle(types)]
 #[tactic(auto, using(crate::proofs::TextLaws::text_then, crate::proofs::TextLaws::text_behind, crate::proofs::TextLaws::text_alone))]
-fn push_type_of(out: &mut Txt, word: Word, item: &TypeExpr) -> Result<(), Oom>
+pub fn push_type_of(out: &mut Txt, word: Word, item: &TypeExpr) -> Result<(), Oom>
     ensures { OnOk result (out.new ≡ out.old ++ code_text (of_type word (type_kinds item.now))) }
 {
     push_word(out, word)?;
