@@ -2,6 +2,7 @@ pub mod PrintedLaws
 pub mod CodeKinds
 pub mod QuoteLemmas
 pub mod TextLaws
+pub mod WrittenLaws
 pub mod LayLemmas
 pub mod ReadLemmas
 pub mod TypesAgain

@@ -28,7 +28,7 @@ pub fn push_arguments(alloc: Global, out: &mut Txt, arguments: &[Expr]) -> Resul
 }
 
 #[cycle(code)]
-#[tactic(auto, using(crate::proofs::TextLaws::text_then, crate::proofs::TextLaws::text_behind, crate::proofs::TextLaws::text_alone, crate::proofs::TextLaws::text_nothing))]
+#[tactic(auto, using(crate::proofs::WrittenLaws::no_values, crate::proofs::WrittenLaws::some_values))]
 fn push_values(alloc: Global, out: &mut Txt, values: &[Expr]) -> Result<(), Oom>
     ensures { OnOk result (out.new ≡ out.old ++ code_text (listed (map whole (map printed values.now)))) }
 {
@@ -53,7 +53,7 @@ fn push_another_value(alloc: Global, out: &mut Txt, value: &Expr) -> Result<(), 
 
 /// Values with a comma before each.
 #[cycle(code)]
-#[tactic(auto, using(crate::proofs::TextLaws::values_text))]
+#[tactic(auto, using(crate::proofs::WrittenLaws::values_written))]
 fn push_more_values(alloc: Global, out: &mut Txt, values: &[Expr]) -> Result<(), Oom>
     ensures { OnOk result (out.new ≡ out.old ++ code_text (behind_commas (map whole (map printed values.now)))) }
 {
@@ -75,7 +75,7 @@ fn push_given(alloc: Global, out: &mut Txt, part: &WithPart) -> Result<(), Oom>
 
 /// Parts behind `with`.
 #[cycle(code)]
-#[tactic(auto, using(crate::proofs::TextLaws::text_then, crate::proofs::TextLaws::text_behind, crate::proofs::TextLaws::text_alone, crate::proofs::TextLaws::text_nothing))]
+#[tactic(auto, using(crate::proofs::WrittenLaws::no_parts, crate::proofs::WrittenLaws::some_parts))]
 pub fn push_parts(alloc: Global, out: &mut Txt, parts: &[WithPart]) -> Result<(), Oom>
     ensures { OnOk result (out.new ≡ out.old ++ code_text (listed (map part_kinds parts.now))) }
 {
@@ -100,7 +100,7 @@ fn push_another_part(alloc: Global, out: &mut Txt, part: &WithPart) -> Result<()
 
 /// Parts with a comma before each.
 #[cycle(code)]
-#[tactic(auto, using(crate::proofs::TextLaws::parts_text))]
+#[tactic(auto, using(crate::proofs::WrittenLaws::parts_written))]
 fn push_more_parts(alloc: Global, out: &mut Txt, parts: &[WithPart]) -> Result<(), Oom>
     ensures { OnOk result (out.new ≡ out.old ++ code_text (behind_commas (map part_kinds parts.now))) }
 {
@@ -133,7 +133,7 @@ fn push_hole(alloc: Global, out: &mut Txt, a: &Expr) -> Result<(), Oom>
 }
 
 #[cycle(code)]
-#[tactic(auto, using(crate::proofs::TextLaws::texts_text))]
+#[tactic(auto, using(crate::proofs::WrittenLaws::texts_written))]
 pub fn push_texts(alloc: Global, out: &mut Txt, parts: &[TextPart]) -> Result<(), Oom>
     ensures { OnOk result (out.new ≡ out.old ++ code_text (joined (map text_kinds parts.now))) }
 {
@@ -144,7 +144,7 @@ pub fn push_texts(alloc: Global, out: &mut Txt, parts: &[TextPart]) -> Result<()
 }
 
 #[cycle(code)]
-#[tactic(auto, using(crate::proofs::TextLaws::statements_text))]
+#[tactic(auto, using(crate::proofs::WrittenLaws::statements_written))]
 pub fn push_statements(alloc: Global, out: &mut Txt, statements: &[Stmt]) -> Result<(), Oom>
     ensures { OnOk result (out.new ≡ out.old ++ code_text (joined (map statement_kinds statements.now))) }
 {
@@ -164,7 +164,7 @@ fn push_section(alloc: Global, out: &mut Txt, section: &Section) -> Result<(), O
 }
 
 #[cycle(code)]
-#[tactic(auto, using(crate::proofs::TextLaws::sections_text))]
+#[tactic(auto, using(crate::proofs::WrittenLaws::sections_written))]
 pub fn push_sections(alloc: Global, out: &mut Txt, sections: &[Section]) -> Result<(), Oom>
     ensures { OnOk result (out.new ≡ out.old ++ code_text (joined (map section_kinds sections.now))) }
 {

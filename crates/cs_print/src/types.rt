@@ -17,7 +17,7 @@ pub fn push_type(out: &mut Txt, cs_type: &TypeExpr) -> Result<(), Oom>
 }
 
 #[cycle(types)]
-#[tactic(auto, using(crate::proofs::TextLaws::text_alone, crate::proofs::PrintedLaws::type_int, crate::proofs::PrintedLaws::type_bool, crate::proofs::PrintedLaws::type_text, crate::proofs::PrintedLaws::type_named, crate::proofs::PrintedLaws::type_list, crate::proofs::PrintedLaws::type_callback_none, crate::proofs::PrintedLaws::type_callback_some, crate::proofs::PrintedLaws::type_fragment_none, crate::proofs::PrintedLaws::type_fragment_some, crate::proofs::PrintedLaws::type_change, crate::proofs::PrintedLaws::type_args))]
+#[tactic(auto, using(crate::proofs::TextLaws::text_alone, crate::proofs::PrintedLaws::type_int, crate::proofs::PrintedLaws::type_bool, crate::proofs::PrintedLaws::type_text, crate::proofs::PrintedLaws::type_named, crate::proofs::PrintedLaws::type_list, crate::proofs::WrittenLaws::callback_none, crate::proofs::WrittenLaws::callback_some, crate::proofs::WrittenLaws::fragment_none, crate::proofs::WrittenLaws::fragment_some, crate::proofs::PrintedLaws::type_change, crate::proofs::PrintedLaws::type_args))]
 fn push_kind(out: &mut Txt, kind: &TypeKind) -> Result<(), Oom>
     ensures { OnOk result (out.new ≡ out.old ++ code_text (type_kind_kinds kind.now)) }
 {

@@ -1,0 +1,88 @@
+-- What was written of a list or of a type is its text.
+use Rattle.std.proofs.Common.{◌≡◌, ℕ, List, [], ◌∷◌, ◌++◌, map, refl, sym, ap, ◌∙◌}
+use Rattle.std.specs.Prelude.{Option, Some, None}
+use Rattle.std.specs.List.{flat_map}
+use Rattle.cs_ast.specs.declared.cs_type.TypeExpr.{TypeExpr}
+use Rattle.cs_ast.specs.declared.cs_type.TypeKind.{TypeKind}
+use Rattle.cs_ast.specs.declared.cs_type.TypeKind.TheVariants as tk
+use Rattle.cs_ast.specs.declared.expression.Expr.{Expr}
+use Rattle.cs_ast.specs.declared.expression.Label.{Label}
+use Rattle.cs_ast.specs.declared.expression.Section.{Section}
+use Rattle.cs_ast.specs.declared.expression.Stmt.{Stmt}
+use Rattle.cs_ast.specs.declared.expression.TextPart.{TextPart}
+use Rattle.cs_ast.specs.declared.expression.WithPart.{WithPart}
+use Rattle.cs_ast.specs.declared.member.Argument.{Argument}
+use Rattle.cs_ast.specs.declared.member.Member.{Member}
+use Rattle.cs_token.specs.declared.token.TokenKind.TheVariants as k
+use Rattle.cs_token.specs.declared.token.Sign.TheVariants as s
+use Rattle.cs_token.specs.declared.token.Word.TheVariants as w
+use Rattle.cs_print.specs.Printed.{Kinds, joined, listed, behind_commas, of_type, whole, printed, type_kinds, type_kind_kinds, label_kinds, text_kinds, statement_kinds, section_kinds, part_kinds, argument_kinds, arguments_kinds, member_kinds, members_kinds}
+use Rattle.cs_print.specs.Layout.{laid, code_text}
+use Rattle.cs_print.proofs.PrintedLaws as law
+use Rattle.cs_print.proofs.TextLaws.{text_alone, text_behind, text_nothing, labels_text, texts_text, statements_text, sections_text, values_text, parts_text, arguments_text, members_text}
+
+as_text : (old new x y : List ℕ) → new ≡ old ++ x → y ≡ x → new ≡ old ++ y
+as_text old new x y e is = e ∙ ap (λ z. old ++ z) (sym is)
+
+-- types
+
+pub callback_none : (old new : List ℕ) (kind : TypeKind) (o : Option TypeExpr) → kind ≡ tk.Callback o → o ≡ None → new ≡ old ++ laid (k.Word w.EventCallback) → new ≡ old ++ code_text (type_kind_kinds kind)
+callback_none old new kind o is none e = as_text old new _ _ (text_alone old new (k.Word w.EventCallback) e) (ap code_text (law.type_callback_none kind o is none))
+
+pub callback_some : (old new : List ℕ) (kind : TypeKind) (o : Option TypeExpr) (a : TypeExpr) → kind ≡ tk.Callback o → o ≡ Some a → new ≡ old ++ code_text (of_type w.EventCallback (type_kinds a)) → new ≡ old ++ code_text (type_kind_kinds kind)
+callback_some old new kind o a is some e = as_text old new _ _ e (ap code_text (law.type_callback_some kind o a is some))
+
+pub fragment_none : (old new : List ℕ) (kind : TypeKind) (o : Option TypeExpr) → kind ≡ tk.Fragment o → o ≡ None → new ≡ old ++ laid (k.Word w.RenderFragment) → new ≡ old ++ code_text (type_kind_kinds kind)
+fragment_none old new kind o is none e = as_text old new _ _ (text_alone old new (k.Word w.RenderFragment) e) (ap code_text (law.type_fragment_none kind o is none))
+
+pub fragment_some : (old new : List ℕ) (kind : TypeKind) (o : Option TypeExpr) (a : TypeExpr) → kind ≡ tk.Fragment o → o ≡ Some a → new ≡ old ++ code_text (of_type w.RenderFragment (type_kinds a)) → new ≡ old ++ code_text (type_kind_kinds kind)
+fragment_some old new kind o a is some e = as_text old new _ _ e (ap code_text (law.type_fragment_some kind o a is some))
+
+-- lists, item by item
+
+pub labels_written : (old new : List ℕ) (xs : List Label) → new ≡ old ++ flat_map (λ label. code_text (label_kinds label.kind)) xs → new ≡ old ++ code_text (joined (map (λ label. label_kinds label.kind) xs))
+labels_written old new xs e = as_text old new _ _ e (labels_text xs)
+
+pub texts_written : (old new : List ℕ) (xs : List TextPart) → new ≡ old ++ flat_map (λ x. code_text (text_kinds x)) xs → new ≡ old ++ code_text (joined (map text_kinds xs))
+texts_written old new xs e = as_text old new _ _ e (texts_text xs)
+
+pub statements_written : (old new : List ℕ) (xs : List Stmt) → new ≡ old ++ flat_map (λ x. code_text (statement_kinds x)) xs → new ≡ old ++ code_text (joined (map statement_kinds xs))
+statements_written old new xs e = as_text old new _ _ e (statements_text xs)
+
+pub sections_written : (old new : List ℕ) (xs : List Section) → new ≡ old ++ flat_map (λ x. code_text (section_kinds x)) xs → new ≡ old ++ code_text (joined (map section_kinds xs))
+sections_written old new xs e = as_text old new _ _ e (sections_text xs)
+
+pub values_written : (old new : List ℕ) (xs : List Expr) → new ≡ old ++ flat_map (λ x. code_text (k.Sign s.Comma ∷ whole (printed x))) xs → new ≡ old ++ code_text (behind_commas (map whole (map printed xs)))
+values_written old new xs e = as_text old new _ _ e (values_text xs)
+
+pub parts_written : (old new : List ℕ) (xs : List WithPart) → new ≡ old ++ flat_map (λ x. code_text (k.Sign s.Comma ∷ part_kinds x)) xs → new ≡ old ++ code_text (behind_commas (map part_kinds xs))
+parts_written old new xs e = as_text old new _ _ e (parts_text xs)
+
+pub arguments_written : (old new : List ℕ) (xs : List Argument) → new ≡ old ++ flat_map (λ x. code_text (k.Sign s.Comma ∷ argument_kinds x)) xs → new ≡ old ++ code_text (behind_commas (map argument_kinds xs))
+arguments_written old new xs e = as_text old new _ _ e (arguments_text xs)
+
+pub members_written : (old new : List ℕ) (xs : List Member) → new ≡ old ++ flat_map (λ member. code_text (member_kinds member.kind)) xs → new ≡ old ++ code_text (members_kinds xs)
+members_written old new xs e = as_text old new _ _ e (members_text xs)
+
+-- lists with commas, from the first item on
+
+pub no_values : (old : List ℕ) (xs : List Expr) → xs ≡ [] → old ≡ old ++ code_text (listed (map whole (map printed xs)))
+no_values old xs e = text_nothing old ∙ ap (λ ys. old ++ code_text (listed (map whole (map printed ys)))) (sym e)
+
+pub some_values : (old middle new : List ℕ) (x : Expr) (others xs : List Expr) → xs ≡ x ∷ others → middle ≡ old ++ code_text (whole (printed x)) → new ≡ middle ++ code_text (behind_commas (map whole (map printed others)))
+    → new ≡ old ++ code_text (listed (map whole (map printed xs)))
+some_values old middle new x others xs e one more = text_behind old middle new _ _ one more ∙ ap (λ ys. old ++ code_text (listed (map whole (map printed ys)))) (sym e)
+
+pub no_parts : (old : List ℕ) (xs : List WithPart) → xs ≡ [] → old ≡ old ++ code_text (listed (map part_kinds xs))
+no_parts old xs e = text_nothing old ∙ ap (λ ys. old ++ code_text (listed (map part_kinds ys))) (sym e)
+
+pub some_parts : (old middle new : List ℕ) (x : WithPart) (others xs : List WithPart) → xs ≡ x ∷ others → middle ≡ old ++ code_text (part_kinds x) → new ≡ middle ++ code_text (behind_commas (map part_kinds others))
+    → new ≡ old ++ code_text (listed (map part_kinds xs))
+some_parts old middle new x others xs e one more = text_behind old middle new _ _ one more ∙ ap (λ ys. old ++ code_text (listed (map part_kinds ys))) (sym e)
+
+pub no_arguments : (old : List ℕ) (xs : List Argument) → xs ≡ [] → old ≡ old ++ code_text (arguments_kinds xs)
+no_arguments old xs e = text_nothing old ∙ ap (λ ys. old ++ code_text (arguments_kinds ys)) (sym e)
+
+pub some_arguments : (old middle new : List ℕ) (x : Argument) (others xs : List Argument) → xs ≡ x ∷ others → middle ≡ old ++ code_text (argument_kinds x) → new ≡ middle ++ code_text (behind_commas (map argument_kinds others))
+    → new ≡ old ++ code_text (arguments_kinds xs)
+some_arguments old middle new x others xs e one more = text_behind old middle new _ _ one more ∙ ap (λ ys. old ++ code_text (arguments_kinds ys)) (sym e)
