@@ -17,3 +17,5 @@ pub mod ProperLemmas
 pub mod LambdasAgain
 pub mod MembersAgain
 pub mod MemberForms
+pub mod RecordLaws
+pub mod Theorems

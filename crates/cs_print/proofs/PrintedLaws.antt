@@ -86,17 +86,13 @@ pub type_args : type_kind_kinds (tk.Args) ≡ k.Word w.EventArgs ∷ []
 type_args = at_type (tk.Args) (TypeKind-F.Args) (tk.rolls-Args)
 
 -- where the argument may be absent
-pub type_callback_none : (kind : TypeKind) (o : Option TypeExpr) → kind ≡ tk.Callback o → o ≡ None → type_kind_kinds kind ≡ k.Word w.EventCallback ∷ []
-type_callback_none kind o is none = ap type_kind_kinds (is ∙ ap (λ (x : Option TypeExpr). tk.Callback x) none) ∙ type_callback
+pub type_callback_any : (o : Option TypeExpr) → type_kind_kinds (tk.Callback o) ≡ p.generic w.EventCallback (option_map type_kinds o)
+type_callback_any None = type_callback
+type_callback_any (Some a) = type_callback_of a
 
-pub type_callback_some : (kind : TypeKind) (o : Option TypeExpr) (a : TypeExpr) → kind ≡ tk.Callback o → o ≡ Some a → type_kind_kinds kind ≡ of_type w.EventCallback (type_kinds a)
-type_callback_some kind o a is some = ap type_kind_kinds (is ∙ ap (λ (x : Option TypeExpr). tk.Callback x) some) ∙ type_callback_of a
-
-pub type_fragment_none : (kind : TypeKind) (o : Option TypeExpr) → kind ≡ tk.Fragment o → o ≡ None → type_kind_kinds kind ≡ k.Word w.RenderFragment ∷ []
-type_fragment_none kind o is none = ap type_kind_kinds (is ∙ ap (λ (x : Option TypeExpr). tk.Fragment x) none) ∙ type_fragment
-
-pub type_fragment_some : (kind : TypeKind) (o : Option TypeExpr) (a : TypeExpr) → kind ≡ tk.Fragment o → o ≡ Some a → type_kind_kinds kind ≡ of_type w.RenderFragment (type_kinds a)
-type_fragment_some kind o a is some = ap type_kind_kinds (is ∙ ap (λ (x : Option TypeExpr). tk.Fragment x) some) ∙ type_fragment_of a
+pub type_fragment_any : (o : Option TypeExpr) → type_kind_kinds (tk.Fragment o) ≡ p.generic w.RenderFragment (option_map type_kinds o)
+type_fragment_any None = type_fragment
+type_fragment_any (Some a) = type_fragment_of a
 
 -- what a type is printed as, by its form
 pub type_look : (kind : TypeKind) → type_kind_kinds kind ≡ type_form (map-TypeKind TypeKind TypeExpr Kinds Kinds type_kind_kinds type_kinds (out-TypeKind kind))

@@ -1,10 +1,7 @@
 -- What was written of a list or of a type is its text.
-use Rattle.std.proofs.Common.{◌≡◌, ℕ, List, [], ◌∷◌, ◌++◌, map, refl, sym, ap, ◌∙◌}
+use Rattle.std.proofs.Common.{◌≡◌, ℕ, ◌<◌, ◌≤◌, List, [], ◌∷◌, ◌++◌, map, length, drop, get_or, refl, sym, ap, ◌∙◌, subst, arith}
 use Rattle.std.specs.Prelude.{Option, Some, None}
 use Rattle.std.specs.List.{flat_map}
-use Rattle.cs_ast.specs.declared.cs_type.TypeExpr.{TypeExpr}
-use Rattle.cs_ast.specs.declared.cs_type.TypeKind.{TypeKind}
-use Rattle.cs_ast.specs.declared.cs_type.TypeKind.TheVariants as tk
 use Rattle.cs_ast.specs.declared.expression.Expr.{Expr}
 use Rattle.cs_ast.specs.declared.expression.Label.{Label}
 use Rattle.cs_ast.specs.declared.expression.Section.{Section}
@@ -15,28 +12,12 @@ use Rattle.cs_ast.specs.declared.member.Argument.{Argument}
 use Rattle.cs_ast.specs.declared.member.Member.{Member}
 use Rattle.cs_token.specs.declared.token.TokenKind.TheVariants as k
 use Rattle.cs_token.specs.declared.token.Sign.TheVariants as s
-use Rattle.cs_token.specs.declared.token.Word.TheVariants as w
 use Rattle.cs_print.specs.Printed.{Kinds, joined, listed, behind_commas, of_type, whole, printed, type_kinds, type_kind_kinds, label_kinds, text_kinds, statement_kinds, section_kinds, part_kinds, argument_kinds, arguments_kinds, member_kinds, members_kinds}
 use Rattle.cs_print.specs.Layout.{laid, code_text}
-use Rattle.cs_print.proofs.PrintedLaws as law
 use Rattle.cs_print.proofs.TextLaws.{text_alone, text_behind, text_nothing, labels_text, texts_text, statements_text, sections_text, values_text, parts_text, arguments_text, members_text}
 
 as_text : (old new x y : List ℕ) → new ≡ old ++ x → y ≡ x → new ≡ old ++ y
 as_text old new x y e is = e ∙ ap (λ z. old ++ z) (sym is)
-
--- types
-
-pub callback_none : (old new : List ℕ) (kind : TypeKind) (o : Option TypeExpr) → kind ≡ tk.Callback o → o ≡ None → new ≡ old ++ laid (k.Word w.EventCallback) → new ≡ old ++ code_text (type_kind_kinds kind)
-callback_none old new kind o is none e = as_text old new _ _ (text_alone old new (k.Word w.EventCallback) e) (ap code_text (law.type_callback_none kind o is none))
-
-pub callback_some : (old new : List ℕ) (kind : TypeKind) (o : Option TypeExpr) (a : TypeExpr) → kind ≡ tk.Callback o → o ≡ Some a → new ≡ old ++ code_text (of_type w.EventCallback (type_kinds a)) → new ≡ old ++ code_text (type_kind_kinds kind)
-callback_some old new kind o a is some e = as_text old new _ _ e (ap code_text (law.type_callback_some kind o a is some))
-
-pub fragment_none : (old new : List ℕ) (kind : TypeKind) (o : Option TypeExpr) → kind ≡ tk.Fragment o → o ≡ None → new ≡ old ++ laid (k.Word w.RenderFragment) → new ≡ old ++ code_text (type_kind_kinds kind)
-fragment_none old new kind o is none e = as_text old new _ _ (text_alone old new (k.Word w.RenderFragment) e) (ap code_text (law.type_fragment_none kind o is none))
-
-pub fragment_some : (old new : List ℕ) (kind : TypeKind) (o : Option TypeExpr) (a : TypeExpr) → kind ≡ tk.Fragment o → o ≡ Some a → new ≡ old ++ code_text (of_type w.RenderFragment (type_kinds a)) → new ≡ old ++ code_text (type_kind_kinds kind)
-fragment_some old new kind o a is some e = as_text old new _ _ e (ap code_text (law.type_fragment_some kind o a is some))
 
 -- lists, item by item
 
@@ -66,23 +47,32 @@ members_written old new xs e = as_text old new _ _ e (members_text xs)
 
 -- lists with commas, from the first item on
 
-pub no_values : (old : List ℕ) (xs : List Expr) → xs ≡ [] → old ≡ old ++ code_text (listed (map whole (map printed xs)))
-no_values old xs e = text_nothing old ∙ ap (λ ys. old ++ code_text (listed (map whole (map printed ys)))) (sym e)
+pub no_values : (old : List ℕ) (xs : List Expr) → length xs < 1 → old ≡ old ++ code_text (listed (map whole (map printed xs)))
+no_values old [] short = text_nothing old
+no_values old (x ∷ xs) short = absurd (omega (arith, short))
 
-pub some_values : (old middle new : List ℕ) (x : Expr) (others xs : List Expr) → xs ≡ x ∷ others → middle ≡ old ++ code_text (whole (printed x)) → new ≡ middle ++ code_text (behind_commas (map whole (map printed others)))
+pub some_values : (old middle new : List ℕ) (x : Expr) (xs : List Expr) → 1 ≤ length xs → x ≡ get_or xs 0 x → middle ≡ old ++ code_text (whole (printed x)) → new ≡ middle ++ code_text (behind_commas (map whole (map printed (drop 1 xs))))
     → new ≡ old ++ code_text (listed (map whole (map printed xs)))
-some_values old middle new x others xs e one more = text_behind old middle new _ _ one more ∙ ap (λ ys. old ++ code_text (listed (map whole (map printed ys)))) (sym e)
+some_values old middle new x [] long first one more = absurd (omega (arith, long))
+some_values old middle new x (y ∷ xs) long first one more =
+    text_behind old middle new _ _ (subst (λ z. middle ≡ old ++ code_text (whole (printed z))) first one) more
 
-pub no_parts : (old : List ℕ) (xs : List WithPart) → xs ≡ [] → old ≡ old ++ code_text (listed (map part_kinds xs))
-no_parts old xs e = text_nothing old ∙ ap (λ ys. old ++ code_text (listed (map part_kinds ys))) (sym e)
+pub no_parts : (old : List ℕ) (xs : List WithPart) → length xs < 1 → old ≡ old ++ code_text (listed (map part_kinds xs))
+no_parts old [] short = text_nothing old
+no_parts old (x ∷ xs) short = absurd (omega (arith, short))
 
-pub some_parts : (old middle new : List ℕ) (x : WithPart) (others xs : List WithPart) → xs ≡ x ∷ others → middle ≡ old ++ code_text (part_kinds x) → new ≡ middle ++ code_text (behind_commas (map part_kinds others))
+pub some_parts : (old middle new : List ℕ) (x : WithPart) (xs : List WithPart) → 1 ≤ length xs → x ≡ get_or xs 0 x → middle ≡ old ++ code_text (part_kinds x) → new ≡ middle ++ code_text (behind_commas (map part_kinds (drop 1 xs)))
     → new ≡ old ++ code_text (listed (map part_kinds xs))
-some_parts old middle new x others xs e one more = text_behind old middle new _ _ one more ∙ ap (λ ys. old ++ code_text (listed (map part_kinds ys))) (sym e)
+some_parts old middle new x [] long first one more = absurd (omega (arith, long))
+some_parts old middle new x (y ∷ xs) long first one more =
+    text_behind old middle new _ _ (subst (λ z. middle ≡ old ++ code_text (part_kinds z)) first one) more
 
-pub no_arguments : (old : List ℕ) (xs : List Argument) → xs ≡ [] → old ≡ old ++ code_text (arguments_kinds xs)
-no_arguments old xs e = text_nothing old ∙ ap (λ ys. old ++ code_text (arguments_kinds ys)) (sym e)
+pub no_arguments : (old : List ℕ) (xs : List Argument) → length xs < 1 → old ≡ old ++ code_text (arguments_kinds xs)
+no_arguments old [] short = text_nothing old
+no_arguments old (x ∷ xs) short = absurd (omega (arith, short))
 
-pub some_arguments : (old middle new : List ℕ) (x : Argument) (others xs : List Argument) → xs ≡ x ∷ others → middle ≡ old ++ code_text (argument_kinds x) → new ≡ middle ++ code_text (behind_commas (map argument_kinds others))
+pub some_arguments : (old middle new : List ℕ) (x : Argument) (xs : List Argument) → 1 ≤ length xs → x ≡ get_or xs 0 x → middle ≡ old ++ code_text (argument_kinds x) → new ≡ middle ++ code_text (behind_commas (map argument_kinds (drop 1 xs)))
     → new ≡ old ++ code_text (arguments_kinds xs)
-some_arguments old middle new x others xs e one more = text_behind old middle new _ _ one more ∙ ap (λ ys. old ++ code_text (arguments_kinds ys)) (sym e)
+some_arguments old middle new x [] long first one more = absurd (omega (arith, long))
+some_arguments old middle new x (y ∷ xs) long first one more =
+    text_behind old middle new _ _ (subst (λ z. middle ≡ old ++ code_text (argument_kinds z)) first one) more

@@ -120,6 +120,11 @@ in_braces x = k.Sign s.OpenBrace ∷ (x ++ k.Sign s.CloseBrace ∷ [])
 abbrev pub of_type : Word → Kinds → Kinds
 of_type word a = k.Word word ∷ k.Sign s.Less ∷ (a ++ k.Sign s.Greater ∷ [])
 
+-- the same, where there may be none in its brackets
+abbrev pub generic : Word → Option Kinds → Kinds
+generic word None = k.Word word ∷ []
+generic word (Some a) = of_type word a
+
 -- a type by its parts
 abbrev pub type_form : TypeKind-F Kinds Kinds → Kinds
 type_form TypeKind-F.Int = k.Word w.Int ∷ []
@@ -127,10 +132,8 @@ type_form TypeKind-F.Bool = k.Word w.Bool ∷ []
 type_form TypeKind-F.Text = k.Word w.String ∷ []
 type_form (TypeKind-F.Named name) = k.Name name ∷ []
 type_form (TypeKind-F.List a) = of_type w.ImmutableList a
-type_form (TypeKind-F.Callback None) = k.Word w.EventCallback ∷ []
-type_form (TypeKind-F.Callback (Some a)) = of_type w.EventCallback a
-type_form (TypeKind-F.Fragment None) = k.Word w.RenderFragment ∷ []
-type_form (TypeKind-F.Fragment (Some a)) = of_type w.RenderFragment a
+type_form (TypeKind-F.Callback a) = generic w.EventCallback a
+type_form (TypeKind-F.Fragment a) = generic w.RenderFragment a
 type_form TypeKind-F.Change = k.Word w.ChangeEventArgs ∷ []
 type_form TypeKind-F.Args = k.Word w.EventArgs ∷ []
 
@@ -391,6 +394,10 @@ section_kinds =
     Kinds Printed Kinds Kinds Printed Kinds Kinds Kinds
     body_form expression_form statement_form text_form (λ it. it.kind) (λ it. sectioned it.labels it.body) (λ it. it.kind) (λ it. given it.name.name it.value)
 
+-- statements one behind another
+abbrev pub statements_kinds : List Stmt → Kinds
+statements_kinds statements = joined (map statement_kinds statements)
+
 -- An argument, and arguments with commas between them.
 abbrev pub argument_kinds : Argument → Kinds
 argument_kinds a = type_kinds a.cs_type ++ k.Name a.name.name ∷ []
@@ -402,10 +409,14 @@ arguments_kinds arguments = listed (map argument_kinds arguments)
 abbrev pub is_record : TypeKind → Bool
 is_record kind = elim (out-TypeKind kind) [ TypeKind-F.Named name ↦ bytes_eq name (codes "record") | _ ↦ false ]
 
--- The result of a method. Behind the name `record` stands `?`, so that no record begins there.
+-- A type as the result of a method. Behind the name `record` stands `?`, so that no record begins there.
+abbrev pub result_of : TypeExpr → Kinds
+result_of a = if is_record a.kind then type_kinds a ++ k.Sign s.Question ∷ [] else type_kinds a
+
+-- the result of a method
 abbrev pub result_kinds : Option TypeExpr → Kinds
 result_kinds None = k.Word w.Void ∷ []
-result_kinds (Some a) = if is_record a.kind then type_kinds a ++ k.Sign s.Question ∷ [] else type_kinds a
+result_kinds (Some a) = result_of a
 
 -- the body of a method
 abbrev pub method_body : Body → Kinds
@@ -423,6 +434,10 @@ abbrev pub property_end : Option Printed → Kinds
 property_end None = []
 property_end (Some a) = k.Sign s.Assign ∷ ended (whole a)
 
+-- a property
+abbrev pub property_kinds : TypeExpr → List ℕ → Option Printed → Kinds
+property_kinds a name value = type_kinds a ++ k.Name name ∷ (accessors ++ property_end value)
+
 abbrev pub in_square : Kinds → Kinds
 in_square x = k.Sign s.OpenSquare ∷ (x ++ k.Sign s.CloseSquare ∷ [])
 
@@ -437,7 +452,7 @@ attribute_kinds true (Some x) =
 unfoldable pub member_kinds : MemberKind → Kinds
 member_kinds (mk.Field a name value) = type_kinds a ++ k.Name name.name ∷ ended (initial (option_map printed value))
 member_kinds (mk.Parameter cascading source a name value) =
-    attribute_kinds cascading source ++ (type_kinds a ++ k.Name name.name ∷ (accessors ++ property_end (option_map printed value)))
+    attribute_kinds cascading source ++ property_kinds a name.name (option_map printed value)
 member_kinds (mk.Method result name arguments b) =
     result_kinds result ++ k.Name name.name ∷ (in_round (arguments_kinds arguments) ++ method_body b)
 member_kinds (mk.Getter a name value) = type_kinds a ++ k.Name name.name ∷ k.Sign s.Arrow ∷ ended (whole (printed value))

@@ -1,11 +1,12 @@
 // Writes types.
-ghost use Rattle.std.specs.Prelude.{◌≡◌, ◌++◌, OnOk};
+ghost use Rattle.std.specs.Prelude.{◌≡◌, ◌++◌, OnOk, option_map};
 ghost use Rattle.cs_print.specs.Layout.{code_text};
-ghost use Rattle.cs_print.specs.Printed.{of_type, type_kinds, type_kind_kinds};
+ghost use Rattle.cs_print.specs.Printed.{of_type, generic, type_kinds, type_kind_kinds};
 
 use crate::tokens::{push_name, push_sign, push_word};
 use cs_ast::{TypeExpr, TypeKind};
 use cs_token::{Sign, Word};
+use sqlite_items::Boxed;
 use text_core::{Oom, Txt};
 
 #[cycle(types)]
@@ -17,7 +18,7 @@ pub fn push_type(out: &mut Txt, cs_type: &TypeExpr) -> Result<(), Oom>
 }
 
 #[cycle(types)]
-#[tactic(auto, using(crate::proofs::TextLaws::text_alone, crate::proofs::PrintedLaws::type_int, crate::proofs::PrintedLaws::type_bool, crate::proofs::PrintedLaws::type_text, crate::proofs::PrintedLaws::type_named, crate::proofs::PrintedLaws::type_list, crate::proofs::WrittenLaws::callback_none, crate::proofs::WrittenLaws::callback_some, crate::proofs::WrittenLaws::fragment_none, crate::proofs::WrittenLaws::fragment_some, crate::proofs::PrintedLaws::type_change, crate::proofs::PrintedLaws::type_args))]
+#[tactic(auto, using(crate::proofs::TextLaws::text_alone, crate::proofs::PrintedLaws::type_int, crate::proofs::PrintedLaws::type_bool, crate::proofs::PrintedLaws::type_text, crate::proofs::PrintedLaws::type_named, crate::proofs::PrintedLaws::type_list, crate::proofs::PrintedLaws::type_callback_any, crate::proofs::PrintedLaws::type_fragment_any, crate::proofs::PrintedLaws::type_change, crate::proofs::PrintedLaws::type_args))]
 fn push_kind(out: &mut Txt, kind: &TypeKind) -> Result<(), Oom>
     ensures { OnOk result (out.new ≡ out.old ++ code_text (type_kind_kinds kind.now)) }
 {
@@ -27,10 +28,8 @@ fn push_kind(out: &mut Txt, kind: &TypeKind) -> Result<(), Oom>
         TypeKind::Text => push_word(out, Word::String),
         TypeKind::Named(name) => push_name(out, name),
         TypeKind::List(item) => push_type_of(out, Word::ImmutableList, item.get()),
-        TypeKind::Callback(None) => push_word(out, Word::EventCallback),
-        TypeKind::Callback(Some(item)) => push_type_of(out, Word::EventCallback, item.get()),
-        TypeKind::Fragment(None) => push_word(out, Word::RenderFragment),
-        TypeKind::Fragment(Some(item)) => push_type_of(out, Word::RenderFragment, item.get()),
+        TypeKind::Callback(item) => push_generic(out, Word::EventCallback, item),
+        TypeKind::Fragment(item) => push_generic(out, Word::RenderFragment, item),
         TypeKind::Change => push_word(out, Word::ChangeEventArgs),
         TypeKind::Args => push_word(out, Word::EventArgs),
     }
@@ -46,4 +45,16 @@ pub fn push_type_of(out: &mut Txt, word: Word, item: &TypeExpr) -> Result<(), Oo
     push_sign(out, Sign::Less)?;
     push_type(out, item)?;
     push_sign(out, Sign::Greater)
+}
+
+/// The same, where there may be none in its brackets.
+#[cycle(types)]
+#[tactic(auto, using(crate::proofs::TextLaws::text_alone))]
+fn push_generic(out: &mut Txt, word: Word, item: &Option<Boxed<TypeExpr>>) -> Result<(), Oom>
+    ensures { OnOk result (out.new ≡ out.old ++ code_text (generic word (option_map type_kinds item.now))) }
+{
+    match item {
+        None => push_word(out, word),
+        Some(item) => push_type_of(out, word, item.get()),
+    }
 }
