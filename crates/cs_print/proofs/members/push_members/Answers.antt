@@ -1,0 +1,6 @@
+use Rattle.std.proofs.Common.{rules}
+use Rattle.cs_print.proofs.WrittenLaws.{members_written}
+use Rattle.cs_print.proofs.members.push_members.Goals as goal
+
+pub returns : goal.returns
+returns c = members_written c.args.out.now c.loop-member.out c.args.members.now (search rules)

@@ -1,0 +1,6 @@
+use Rattle.std.proofs.Common.{rules}
+use Rattle.cs_print.proofs.WrittenLaws.{arguments_written}
+use Rattle.cs_print.proofs.members.push_more_arguments.Goals as goal
+
+pub returns : goal.returns
+returns c = arguments_written c.args.out.now c.loop-argument.out c.args.arguments.now (search rules)
