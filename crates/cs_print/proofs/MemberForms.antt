@@ -307,6 +307,7 @@ record FoundAttribute (cascading : Bool) (source : Option (List ℕ)) (rest : Li
   proper : AreProper rest
 
 attribute_again : (ts rest : List Token) (cascading : Bool) (source : Option (List ℕ)) → Attribute ts rest cascading source → AreProper ts → FoundAttribute cascading source rest
+unfolding p.source_kinds
 attribute_again _ _ _ _ (g.parameter o n d rest opens has closes) known =
     let behind = later o (n ∷ d ∷ rest) known in
     record {

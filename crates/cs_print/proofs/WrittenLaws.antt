@@ -1,7 +1,8 @@
 -- What was written of a list or of a type is its text.
-use Rattle.std.proofs.Common.{◌≡◌, ℕ, ◌<◌, ◌≤◌, List, [], ◌∷◌, ◌++◌, map, length, drop, get_or, refl, sym, ap, ◌∙◌, subst, arith}
+use Rattle.std.proofs.Common.{◌≡◌, ℕ, ◌<◌, ◌≤◌, List, [], ◌∷◌, ◌++◌, map, length, take, drop, get_or, refl, sym, ap, ◌∙◌, subst, arith}
 use Rattle.std.specs.Prelude.{Option, Some, None}
 use Rattle.std.specs.List.{flat_map}
+use Rattle.std.proofs.lemmas.List.{take_all}
 use Rattle.cs_ast.specs.declared.expression.Expr.{Expr}
 use Rattle.cs_ast.specs.declared.expression.Label.{Label}
 use Rattle.cs_ast.specs.declared.expression.Section.{Section}
@@ -19,31 +20,34 @@ use Rattle.cs_print.proofs.TextLaws.{text_alone, text_behind, text_nothing, labe
 as_text : (old new x y : List ℕ) → new ≡ old ++ x → y ≡ x → new ≡ old ++ y
 as_text old new x y e is = e ∙ ap (λ z. old ++ z) (sym is)
 
--- lists, item by item
+-- lists, item by item, to the end
 
-pub labels_written : (old new : List ℕ) (xs : List Label) → new ≡ old ++ flat_map (λ label. code_text (label_kinds label.kind)) xs → new ≡ old ++ code_text (joined (map (λ label. label_kinds label.kind) xs))
-labels_written old new xs e = as_text old new _ _ e (labels_text xs)
+at_end : {X : Type 0} (f : X → List ℕ) (old new : List ℕ) (xs : List X) (n : ℕ) → length xs ≤ n → new ≡ old ++ flat_map f (take n xs) → new ≡ old ++ flat_map f xs
+at_end f old new xs n all e = e ∙ ap (λ ys. old ++ flat_map f ys) (take_all n xs all)
 
-pub texts_written : (old new : List ℕ) (xs : List TextPart) → new ≡ old ++ flat_map (λ x. code_text (text_kinds x)) xs → new ≡ old ++ code_text (joined (map text_kinds xs))
-texts_written old new xs e = as_text old new _ _ e (texts_text xs)
+pub labels_written : (old new : List ℕ) (xs : List Label) (n : ℕ) → length xs ≤ n → new ≡ old ++ flat_map (λ label. code_text (label_kinds label.kind)) (take n xs) → new ≡ old ++ code_text (joined (map (λ label. label_kinds label.kind) xs))
+labels_written old new xs n all e = as_text old new _ _ (at_end _ old new xs n all e) (labels_text xs)
 
-pub statements_written : (old new : List ℕ) (xs : List Stmt) → new ≡ old ++ flat_map (λ x. code_text (statement_kinds x)) xs → new ≡ old ++ code_text (joined (map statement_kinds xs))
-statements_written old new xs e = as_text old new _ _ e (statements_text xs)
+pub texts_written : (old new : List ℕ) (xs : List TextPart) (n : ℕ) → length xs ≤ n → new ≡ old ++ flat_map (λ x. code_text (text_kinds x)) (take n xs) → new ≡ old ++ code_text (joined (map text_kinds xs))
+texts_written old new xs n all e = as_text old new _ _ (at_end _ old new xs n all e) (texts_text xs)
 
-pub sections_written : (old new : List ℕ) (xs : List Section) → new ≡ old ++ flat_map (λ x. code_text (section_kinds x)) xs → new ≡ old ++ code_text (joined (map section_kinds xs))
-sections_written old new xs e = as_text old new _ _ e (sections_text xs)
+pub statements_written : (old new : List ℕ) (xs : List Stmt) (n : ℕ) → length xs ≤ n → new ≡ old ++ flat_map (λ x. code_text (statement_kinds x)) (take n xs) → new ≡ old ++ code_text (joined (map statement_kinds xs))
+statements_written old new xs n all e = as_text old new _ _ (at_end _ old new xs n all e) (statements_text xs)
 
-pub values_written : (old new : List ℕ) (xs : List Expr) → new ≡ old ++ flat_map (λ x. code_text (k.Sign s.Comma ∷ whole (printed x))) xs → new ≡ old ++ code_text (behind_commas (map whole (map printed xs)))
-values_written old new xs e = as_text old new _ _ e (values_text xs)
+pub sections_written : (old new : List ℕ) (xs : List Section) (n : ℕ) → length xs ≤ n → new ≡ old ++ flat_map (λ x. code_text (section_kinds x)) (take n xs) → new ≡ old ++ code_text (joined (map section_kinds xs))
+sections_written old new xs n all e = as_text old new _ _ (at_end _ old new xs n all e) (sections_text xs)
 
-pub parts_written : (old new : List ℕ) (xs : List WithPart) → new ≡ old ++ flat_map (λ x. code_text (k.Sign s.Comma ∷ part_kinds x)) xs → new ≡ old ++ code_text (behind_commas (map part_kinds xs))
-parts_written old new xs e = as_text old new _ _ e (parts_text xs)
+pub values_written : (old new : List ℕ) (xs : List Expr) (n : ℕ) → length xs ≤ n → new ≡ old ++ flat_map (λ x. code_text (k.Sign s.Comma ∷ whole (printed x))) (take n xs) → new ≡ old ++ code_text (behind_commas (map whole (map printed xs)))
+values_written old new xs n all e = as_text old new _ _ (at_end _ old new xs n all e) (values_text xs)
 
-pub arguments_written : (old new : List ℕ) (xs : List Argument) → new ≡ old ++ flat_map (λ x. code_text (k.Sign s.Comma ∷ argument_kinds x)) xs → new ≡ old ++ code_text (behind_commas (map argument_kinds xs))
-arguments_written old new xs e = as_text old new _ _ e (arguments_text xs)
+pub parts_written : (old new : List ℕ) (xs : List WithPart) (n : ℕ) → length xs ≤ n → new ≡ old ++ flat_map (λ x. code_text (k.Sign s.Comma ∷ part_kinds x)) (take n xs) → new ≡ old ++ code_text (behind_commas (map part_kinds xs))
+parts_written old new xs n all e = as_text old new _ _ (at_end _ old new xs n all e) (parts_text xs)
 
-pub members_written : (old new : List ℕ) (xs : List Member) → new ≡ old ++ flat_map (λ member. code_text (member_kinds member.kind)) xs → new ≡ old ++ code_text (members_kinds xs)
-members_written old new xs e = as_text old new _ _ e (members_text xs)
+pub arguments_written : (old new : List ℕ) (xs : List Argument) (n : ℕ) → length xs ≤ n → new ≡ old ++ flat_map (λ x. code_text (k.Sign s.Comma ∷ argument_kinds x)) (take n xs) → new ≡ old ++ code_text (behind_commas (map argument_kinds xs))
+arguments_written old new xs n all e = as_text old new _ _ (at_end _ old new xs n all e) (arguments_text xs)
+
+pub members_written : (old new : List ℕ) (xs : List Member) (n : ℕ) → length xs ≤ n → new ≡ old ++ flat_map (λ member. code_text (member_kinds member.kind)) (take n xs) → new ≡ old ++ code_text (members_kinds xs)
+members_written old new xs n all e = as_text old new _ _ (at_end _ old new xs n all e) (members_text xs)
 
 -- lists with commas, from the first item on
 

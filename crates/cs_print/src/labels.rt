@@ -67,7 +67,6 @@ fn push_label(alloc: Global, out: &mut Txt, label: &Label) -> Result<(), Oom>
     }
 }
 
-#[tactic(auto, using(crate::proofs::WrittenLaws::labels_written))]
 pub fn push_labels(alloc: Global, out: &mut Txt, labels: &[Label]) -> Result<(), Oom>
     ensures { OnOk result (out.new ≡ out.old ++ code_text (joined (map (λ label. label_kinds label.kind) labels.now))) }
 {

@@ -53,7 +53,6 @@ fn push_another_value(alloc: Global, out: &mut Txt, value: &Expr) -> Result<(), 
 
 /// Values with a comma before each.
 #[cycle(code)]
-#[tactic(auto, using(crate::proofs::WrittenLaws::values_written))]
 fn push_more_values(alloc: Global, out: &mut Txt, values: &[Expr]) -> Result<(), Oom>
     ensures { OnOk result (out.new ≡ out.old ++ code_text (behind_commas (map whole (map printed values.now)))) }
 {
@@ -100,7 +99,6 @@ fn push_another_part(alloc: Global, out: &mut Txt, part: &WithPart) -> Result<()
 
 /// Parts with a comma before each.
 #[cycle(code)]
-#[tactic(auto, using(crate::proofs::WrittenLaws::parts_written))]
 fn push_more_parts(alloc: Global, out: &mut Txt, parts: &[WithPart]) -> Result<(), Oom>
     ensures { OnOk result (out.new ≡ out.old ++ code_text (behind_commas (map part_kinds parts.now))) }
 {
@@ -133,7 +131,6 @@ fn push_hole(alloc: Global, out: &mut Txt, a: &Expr) -> Result<(), Oom>
 }
 
 #[cycle(code)]
-#[tactic(auto, using(crate::proofs::WrittenLaws::texts_written))]
 pub fn push_texts(alloc: Global, out: &mut Txt, parts: &[TextPart]) -> Result<(), Oom>
     ensures { OnOk result (out.new ≡ out.old ++ code_text (joined (map text_kinds parts.now))) }
 {
@@ -144,7 +141,6 @@ pub fn push_texts(alloc: Global, out: &mut Txt, parts: &[TextPart]) -> Result<()
 }
 
 #[cycle(code)]
-#[tactic(auto, using(crate::proofs::WrittenLaws::statements_written))]
 pub fn push_statements(alloc: Global, out: &mut Txt, statements: &[Stmt]) -> Result<(), Oom>
     ensures { OnOk result (out.new ≡ out.old ++ code_text (joined (map statement_kinds statements.now))) }
 {
@@ -164,7 +160,6 @@ fn push_section(alloc: Global, out: &mut Txt, section: &Section) -> Result<(), O
 }
 
 #[cycle(code)]
-#[tactic(auto, using(crate::proofs::WrittenLaws::sections_written))]
 pub fn push_sections(alloc: Global, out: &mut Txt, sections: &[Section]) -> Result<(), Oom>
     ensures { OnOk result (out.new ≡ out.old ++ code_text (joined (map section_kinds sections.now))) }
 {

@@ -33,7 +33,6 @@ fn push_another_argument(out: &mut Txt, argument: &Argument) -> Result<(), Oom>
     push_argument(out, argument)
 }
 
-#[tactic(auto, using(crate::proofs::WrittenLaws::arguments_written))]
 fn push_more_arguments(out: &mut Txt, arguments: &[Argument]) -> Result<(), Oom>
     ensures { OnOk result (out.new ≡ out.old ++ code_text (behind_commas (map argument_kinds arguments.now))) }
 {
@@ -159,17 +158,24 @@ fn push_mark(out: &mut Txt, name: &str) -> Result<(), Oom>
     push_sign(out, Sign::CloseSquare)
 }
 
+#[tactic(auto, using(crate::proofs::TextLaws::text_then, crate::proofs::TextLaws::text_behind, crate::proofs::TextLaws::text_alone), unfolding(crate::specs::Printed::source_kinds))]
+fn push_source(out: &mut Txt, source: &Txt) -> Result<(), Oom>
+    ensures { OnOk result (out.new ≡ out.old ++ code_text (spec.source_kinds source.now)) }
+{
+    push_sign(out, Sign::OpenRound)?;
+    push_fixed(out, "Name")?;
+    push_sign(out, Sign::Assign)?;
+    push_text(out, source)?;
+    push_sign(out, Sign::CloseRound)
+}
+
 #[tactic(auto, using(crate::proofs::TextLaws::text_then, crate::proofs::TextLaws::text_behind, crate::proofs::TextLaws::text_alone))]
 fn push_named_mark(out: &mut Txt, source: &Txt) -> Result<(), Oom>
     ensures { OnOk result (out.new ≡ out.old ++ code_text (spec.attribute_kinds true (Some source.now))) }
 {
     push_sign(out, Sign::OpenSquare)?;
     push_fixed(out, "CascadingParameter")?;
-    push_sign(out, Sign::OpenRound)?;
-    push_fixed(out, "Name")?;
-    push_sign(out, Sign::Assign)?;
-    push_text(out, source)?;
-    push_sign(out, Sign::CloseRound)?;
+    push_source(out, source)?;
     push_sign(out, Sign::CloseSquare)
 }
 
@@ -275,7 +281,6 @@ fn push_member(alloc: Global, out: &mut Txt, member: &Member) -> Result<(), Oom>
 }
 
 /// Writes members one behind another.
-#[tactic(auto, using(crate::proofs::WrittenLaws::members_written))]
 pub fn push_members(alloc: Global, out: &mut Txt, members: &[Member]) -> Result<(), Oom>
     ensures { OnOk result (out.new ≡ out.old ++ code_text (members_kinds members.now)) }
 {
