@@ -212,7 +212,7 @@ unfolding for_inner
 for_parts start test step ts rest are =
     let x = parted (started (option_map statement_kinds start)) (ended (optional (option_map printed test)) ++ optional (option_map printed step)) ts rest are in
     let y = middle (optional (option_map printed test)) (k.Sign s.Semicolon) (optional (option_map printed step)) x.us rest
-        (subst (λ z. Are z x.us rest) (append_assoc (optional (option_map printed test)) (k.Sign s.Semicolon ∷ []) (optional (option_map printed step))) x.behind) in
+    (subst (λ z. Are z x.us rest) (append_assoc (optional (option_map printed test)) (k.Sign s.Semicolon ∷ []) (optional (option_map printed step))) x.behind) in
     record { us = x.us; vs = y.us; n = y.t; one = x.front; two = y.front; ends = y.is; three = y.behind }
 
 pub for_again : (j : Jumps) (f : Bool) (q : Place) (start : Option Stmt) (test step : Option Expr) (body : Stmt)

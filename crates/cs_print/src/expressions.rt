@@ -128,13 +128,7 @@ fn push_cast(alloc: Global, out: &mut Txt, op: CastOp, a: &Expr) -> Result<(), O
 
 #[cycle(code)]
 #[tactic(auto, using(crate::proofs::TextLaws::text_then, crate::proofs::TextLaws::text_behind, crate::proofs::TextLaws::text_alone), unfolding(crate::specs::Printed::binary))]
-fn push_binary(
-    alloc: Global,
-    out: &mut Txt,
-    op: BinaryOp,
-    a: &Expr,
-    b: &Expr,
-) -> Result<(), Oom>
+fn push_binary(alloc: Global, out: &mut Txt, op: BinaryOp, a: &Expr, b: &Expr) -> Result<(), Oom>
     ensures { OnOk result (out.new ≡ out.old ++ code_text ((spec.binary op (printed a.now) (printed b.now)).kinds)) }
 {
     push_at(alloc, out, left_level(op), a)?;
@@ -276,12 +270,7 @@ fn push_step(out: &mut Txt, op: StepOp, name: &Ident) -> Result<(), Oom>
 
 #[cycle(code)]
 #[tactic(auto, using(crate::proofs::TextLaws::text_then, crate::proofs::TextLaws::text_behind, crate::proofs::TextLaws::text_alone), unfolding(crate::specs::Printed::lambda))]
-fn push_lambda(
-    alloc: Global,
-    out: &mut Txt,
-    name: &Option<Ident>,
-    body: &Body,
-) -> Result<(), Oom>
+fn push_lambda(alloc: Global, out: &mut Txt, name: &Option<Ident>, body: &Body) -> Result<(), Oom>
     ensures { OnOk result (out.new ≡ out.old ++ code_text ((spec.lambda name.now (spec.body_kinds body.now)).kinds)) }
 {
     match name {

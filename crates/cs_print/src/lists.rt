@@ -8,8 +8,8 @@ ghost use Rattle.cs_print.specs.Printed as spec;
 ghost use Rattle.cs_print.specs.Printed.{whole, printed, in_round, listed, behind_commas, joined, part_kinds, text_kinds, statement_kinds, section_kinds};
 
 use crate::expressions::push_whole;
-use crate::statements::push_statement;
 use crate::labels::push_labels;
+use crate::statements::push_statement;
 use crate::tokens::{push_name, push_part, push_sign};
 use cs_ast::{Expr, Section, Stmt, TextPart, WithPart};
 use cs_token::Sign;

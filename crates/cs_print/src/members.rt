@@ -192,7 +192,13 @@ fn push_attribute(out: &mut Txt, cascading: bool, source: &Option<Txt>) -> Resul
 }
 
 #[tactic(auto, using(crate::proofs::TextLaws::text_then, crate::proofs::TextLaws::text_behind, crate::proofs::TextLaws::text_alone), unfolding(crate::specs::Printed::member_kinds))]
-fn push_field(alloc: Global, out: &mut Txt, cs_type: &TypeExpr, name: &Ident, initial: &Option<Expr>) -> Result<(), Oom>
+fn push_field(
+    alloc: Global,
+    out: &mut Txt,
+    cs_type: &TypeExpr,
+    name: &Ident,
+    initial: &Option<Expr>,
+) -> Result<(), Oom>
     ensures { OnOk result (out.new ≡ out.old ++ code_text (member_kinds (mk.Field cs_type.now name.now initial.now))) }
 {
     push_type(out, cs_type)?;
@@ -203,7 +209,13 @@ fn push_field(alloc: Global, out: &mut Txt, cs_type: &TypeExpr, name: &Ident, in
 
 /// A property of this type, behind its attribute.
 #[tactic(auto, using(crate::proofs::TextLaws::text_then, crate::proofs::TextLaws::text_behind, crate::proofs::TextLaws::text_alone))]
-fn push_property(alloc: Global, out: &mut Txt, cs_type: &TypeExpr, name: &Ident, initial: &Option<Expr>) -> Result<(), Oom>
+fn push_property(
+    alloc: Global,
+    out: &mut Txt,
+    cs_type: &TypeExpr,
+    name: &Ident,
+    initial: &Option<Expr>,
+) -> Result<(), Oom>
     ensures { OnOk result (out.new ≡ out.old ++ code_text (spec.property_kinds cs_type.now name.now.name (option_map printed initial.now))) }
 {
     push_type(out, cs_type)?;
@@ -213,7 +225,14 @@ fn push_property(alloc: Global, out: &mut Txt, cs_type: &TypeExpr, name: &Ident,
 }
 
 #[tactic(auto, using(crate::proofs::TextLaws::text_then, crate::proofs::TextLaws::text_behind, crate::proofs::TextLaws::text_alone), unfolding(crate::specs::Printed::member_kinds))]
-fn push_method(alloc: Global, out: &mut Txt, gives: &Option<TypeExpr>, name: &Ident, arguments: &[Argument], body: &Body) -> Result<(), Oom>
+fn push_method(
+    alloc: Global,
+    out: &mut Txt,
+    gives: &Option<TypeExpr>,
+    name: &Ident,
+    arguments: &[Argument],
+    body: &Body,
+) -> Result<(), Oom>
     ensures { OnOk result (out.new ≡ out.old ++ code_text (member_kinds (mk.Method gives.now name.now arguments.now body.now))) }
 {
     push_result(out, gives)?;
@@ -223,7 +242,13 @@ fn push_method(alloc: Global, out: &mut Txt, gives: &Option<TypeExpr>, name: &Id
 }
 
 #[tactic(auto, using(crate::proofs::TextLaws::text_then, crate::proofs::TextLaws::text_behind, crate::proofs::TextLaws::text_alone), unfolding(crate::specs::Printed::member_kinds))]
-fn push_getter(alloc: Global, out: &mut Txt, gives: &TypeExpr, name: &Ident, value: &Expr) -> Result<(), Oom>
+fn push_getter(
+    alloc: Global,
+    out: &mut Txt,
+    gives: &TypeExpr,
+    name: &Ident,
+    value: &Expr,
+) -> Result<(), Oom>
     ensures { OnOk result (out.new ≡ out.old ++ code_text (member_kinds (mk.Getter gives.now name.now value.now))) }
 {
     push_type(out, gives)?;
@@ -242,7 +267,15 @@ fn push_record(out: &mut Txt, name: &Ident, parts: &[Argument]) -> Result<(), Oo
 }
 
 #[tactic(auto, using(crate::proofs::TextLaws::text_then, crate::proofs::TextLaws::text_behind, crate::proofs::TextLaws::text_alone), unfolding(crate::specs::Printed::member_kinds))]
-fn push_parameter(alloc: Global, out: &mut Txt, cascading: bool, source: &Option<Txt>, cs_type: &TypeExpr, name: &Ident, initial: &Option<Expr>) -> Result<(), Oom>
+fn push_parameter(
+    alloc: Global,
+    out: &mut Txt,
+    cascading: bool,
+    source: &Option<Txt>,
+    cs_type: &TypeExpr,
+    name: &Ident,
+    initial: &Option<Expr>,
+) -> Result<(), Oom>
     ensures { OnOk result (out.new ≡ out.old ++ code_text (member_kinds (mk.Parameter cascading source.now cs_type.now name.now initial.now))) }
 {
     push_attribute(out, cascading, source)?;

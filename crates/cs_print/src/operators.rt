@@ -99,10 +99,7 @@ pub fn level(op: BinaryOp) -> u32
         BinaryOp::Or => 4,
         BinaryOp::And => 5,
         BinaryOp::Equal | BinaryOp::NotEqual => 6,
-        BinaryOp::Less
-        | BinaryOp::Greater
-        | BinaryOp::LessOrEqual
-        | BinaryOp::GreaterOrEqual => 7,
+        BinaryOp::Less | BinaryOp::Greater | BinaryOp::LessOrEqual | BinaryOp::GreaterOrEqual => 7,
         BinaryOp::Add | BinaryOp::Subtract => 8,
         BinaryOp::Multiply | BinaryOp::Divide | BinaryOp::Remainder => 9,
     }

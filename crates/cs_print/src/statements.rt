@@ -283,12 +283,7 @@ fn push_foreach(
 
 #[cycle(code)]
 #[tactic(auto, using(crate::proofs::TextLaws::text_then, crate::proofs::TextLaws::text_behind, crate::proofs::TextLaws::text_alone), unfolding(crate::specs::Printed::switch_of))]
-fn push_switch(
-    alloc: Global,
-    out: &mut Txt,
-    value: &Expr,
-    sections: &[Section],
-) -> Result<(), Oom>
+fn push_switch(alloc: Global, out: &mut Txt, value: &Expr, sections: &[Section]) -> Result<(), Oom>
     ensures { OnOk result (out.new ≡ out.old ++ code_text (spec.switch_of (printed value.now) (map spec.section_kinds sections.now))) }
 {
     push_word(out, Word::Switch)?;
