@@ -441,15 +441,15 @@ property_kinds a name value = type_kinds a ++ k.Name name ∷ (accessors ++ prop
 abbrev pub in_square : Kinds → Kinds
 in_square x = k.Sign s.OpenSquare ∷ (x ++ k.Sign s.CloseSquare ∷ [])
 
--- the name of what a parameter takes, in the brackets of its attribute
+-- an attribute that names what its parameter takes
 unfoldable pub source_kinds : List ℕ → Kinds
-source_kinds x = in_round (k.Name (codes "Name") ∷ k.Sign s.Assign ∷ k.Text x ∷ [])
+source_kinds x = k.Name (codes "CascadingParameter") ∷ in_round (k.Name (codes "Name") ∷ k.Sign s.Assign ∷ k.Text x ∷ [])
 
 -- the attribute of a parameter
 abbrev pub attribute_kinds : Bool → Option (List ℕ) → Kinds
 attribute_kinds false source = in_square (k.Name (codes "Parameter") ∷ [])
 attribute_kinds true None = in_square (k.Name (codes "CascadingParameter") ∷ [])
-attribute_kinds true (Some x) = in_square (k.Name (codes "CascadingParameter") ∷ source_kinds x)
+attribute_kinds true (Some x) = in_square (source_kinds x)
 
 -- a member
 unfoldable pub member_kinds : MemberKind → Kinds

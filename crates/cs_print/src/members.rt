@@ -162,6 +162,7 @@ fn push_mark(out: &mut Txt, name: &str) -> Result<(), Oom>
 fn push_source(out: &mut Txt, source: &Txt) -> Result<(), Oom>
     ensures { OnOk result (out.new ≡ out.old ++ code_text (spec.source_kinds source.now)) }
 {
+    push_fixed(out, "CascadingParameter")?;
     push_sign(out, Sign::OpenRound)?;
     push_fixed(out, "Name")?;
     push_sign(out, Sign::Assign)?;
@@ -174,7 +175,6 @@ fn push_named_mark(out: &mut Txt, source: &Txt) -> Result<(), Oom>
     ensures { OnOk result (out.new ≡ out.old ++ code_text (spec.attribute_kinds true (Some source.now))) }
 {
     push_sign(out, Sign::OpenSquare)?;
-    push_fixed(out, "CascadingParameter")?;
     push_source(out, source)?;
     push_sign(out, Sign::CloseSquare)
 }
