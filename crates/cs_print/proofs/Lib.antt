@@ -11,11 +11,13 @@ pub mod ExpressionLists
 pub mod ExpressionsAgain
 pub mod LookLemmas
 pub mod SimpleAgain
+pub mod LabelsAgain
 pub mod StatementForms
 pub mod StatementsAgain
 pub mod ProperLemmas
 pub mod LambdasAgain
 pub mod MembersAgain
+pub mod ResultsAgain
 pub mod MemberForms
 pub mod RecordLaws
 pub mod Theorems

@@ -33,7 +33,8 @@ use Rattle.cs_grammar.specs.Tokens.{IsSign, IsName, ident}
 use Rattle.cs_grammar.specs.Types as gt
 use Rattle.cs_print.specs.Alike.{Alike, AlikeTypes, AlikeBodies, AlikeOption, AlikeArguments, Each, Both}
 use Rattle.cs_print.specs.Alike as al
-use Rattle.cs_print.specs.Printed.{Kinds, Printed, whole, in_round, in_braces, in_square, listed, behind_commas, ended, type_kinds, printed, argument_kinds, arguments_kinds, result_kinds, method_body, accessors, property_end, attribute_kinds, is_record}
+use Rattle.cs_print.specs.Printed.{Kinds, Printed, whole, in_round, in_braces, listed, behind_commas, ended, type_kinds, printed}
+use Rattle.cs_print.specs.PrintedMembers.{in_square, argument_kinds, arguments_kinds, result_kinds, method_body, accessors, property_end, attribute_kinds, is_record}
 use Rattle.cs_print.specs.Printed as p
 use Rattle.cs_print.proofs.CodeKinds.{IsCode, IsLexeme}
 use Rattle.cs_print.proofs.CodeKinds as c

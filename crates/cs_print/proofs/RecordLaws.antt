@@ -17,7 +17,8 @@ use Rattle.cs_ast.specs.declared.expression.TextPart.{TextPart}
 use Rattle.cs_ast.specs.declared.expression.WithPart.{WithPart}
 use Rattle.cs_token.specs.declared.token.TokenKind.TheVariants as k
 use Rattle.cs_token.specs.declared.token.Sign.TheVariants as s
-use Rattle.cs_print.specs.Printed.{Kinds, whole, ended, in_braces, joined, printed, statement_kinds, is_record, method_body}
+use Rattle.cs_print.specs.Printed.{Kinds, whole, ended, in_braces, joined, printed, statement_kinds}
+use Rattle.cs_print.specs.PrintedMembers.{is_record, method_body}
 
 look : TypeKind-F TypeKind TypeExpr → Bool
 look x = elim x [ TypeKind-F.Named name ↦ bytes_eq name (codes "record") | _ ↦ false ]

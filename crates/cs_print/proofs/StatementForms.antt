@@ -32,7 +32,8 @@ use Rattle.cs_print.proofs.LayLemmas as r
 use Rattle.cs_print.proofs.ReadLemmas as rd
 use Rattle.cs_print.proofs.ReadLemmas.{Prints, prints_as, first, single, parted, middle, signed, worded, named, up_to}
 use Rattle.cs_print.proofs.ExpressionForms.{Reads, ExprAgain, all, bracketed_code}
-use Rattle.cs_print.proofs.SimpleAgain.{ReadsSimple, ReadsStart, ReadsCondition, ReadsStep, ReadsLabels, labels_kinds, nothing_read}
+use Rattle.cs_print.proofs.SimpleAgain.{ReadsSimple, ReadsStart, ReadsCondition, ReadsStep, nothing_read}
+use Rattle.cs_print.proofs.LabelsAgain.{ReadsLabels, labels_kinds}
 use Rattle.cs_print.proofs.LookLemmas.{invoke_alike}
 
 -- a statement like this one is spelled, where jumps may stand so, and what may follow is so

@@ -19,7 +19,8 @@ use Rattle.cs_print.proofs.CodeKinds.{IsLexeme}
 use Rattle.cs_print.proofs.CodeKinds as c
 use Rattle.cs_print.proofs.ReadLemmas.{Prints, prints_as, parted, AreProper, later, lexeme}
 use Rattle.cs_print.proofs.ExpressionsAgain.{expression}
-use Rattle.cs_print.proofs.SimpleAgain.{ReadsLabels, labels_kinds, simple, starting, condition, stepping, labels, defaults_alike}
+use Rattle.cs_print.proofs.SimpleAgain.{simple, starting, condition, stepping}
+use Rattle.cs_print.proofs.LabelsAgain.{ReadsLabels, labels_kinds, labels, defaults_alike}
 use Rattle.cs_print.proofs.StatementForms.{StatementAgain, StatementsAgain, SectionsAgain, ReadsSections, body_kinds, sections_kinds, no_statements, more_statements, simple_again, empty_again, block_again, if_alone_again, if_else_again, while_again, for_again, foreach_again, switch_again, await_again, break_again, continue_again, return_again, no_sections}
 use Rattle.cs_print.proofs.LookLemmas.{leaves_alike}
 

@@ -13,7 +13,8 @@ use Rattle.cs_ast.specs.declared.expression.WithPart.{WithPart}
 use Rattle.cs_ast.specs.declared.member.Argument.{Argument}
 use Rattle.cs_ast.specs.declared.member.Member.{Member}
 use Rattle.cs_token.specs.declared.token.TokenKind.{TokenKind}
-use Rattle.cs_print.specs.Printed.{Kinds, joined, behind_commas, whole, printed, label_kinds, text_kinds, statement_kinds, section_kinds, part_kinds, argument_kinds, member_kinds}
+use Rattle.cs_print.specs.Printed.{Kinds, joined, behind_commas, whole, printed, label_kinds, text_kinds, statement_kinds, section_kinds, part_kinds}
+use Rattle.cs_print.specs.PrintedMembers.{argument_kinds, member_kinds}
 use Rattle.cs_token.specs.declared.token.TokenKind.TheVariants as k
 use Rattle.cs_token.specs.declared.token.Sign.TheVariants as s
 use Rattle.cs_print.specs.Layout.{laid, code_text, token_text, gap_behind, part_text}

@@ -10,7 +10,8 @@ use Rattle.cs_grammar.specs.Statements.{SpelledStatements, no_jumps}
 use Rattle.cs_print.specs.Again.{IsSpelled, SpellsAgain}
 use Rattle.cs_print.specs.Alike.{Alike, AlikeAllStatements, AlikeMembers, Each}
 use Rattle.cs_print.specs.Layout.{code_text}
-use Rattle.cs_print.specs.Printed.{Kinds, whole, printed, statements_kinds, members_kinds}
+use Rattle.cs_print.specs.Printed.{Kinds, whole, printed, statements_kinds}
+use Rattle.cs_print.specs.PrintedMembers.{members_kinds}
 use Rattle.cs_print.proofs.LayLemmas.{code-spelled}
 use Rattle.cs_print.proofs.ProperLemmas.{proper-tokens}
 use Rattle.cs_print.proofs.LambdasAgain.{Whole, spelled_whole, value_whole}

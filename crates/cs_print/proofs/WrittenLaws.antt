@@ -13,7 +13,8 @@ use Rattle.cs_ast.specs.declared.member.Argument.{Argument}
 use Rattle.cs_ast.specs.declared.member.Member.{Member}
 use Rattle.cs_token.specs.declared.token.TokenKind.TheVariants as k
 use Rattle.cs_token.specs.declared.token.Sign.TheVariants as s
-use Rattle.cs_print.specs.Printed.{Kinds, joined, listed, behind_commas, of_type, whole, printed, type_kinds, type_kind_kinds, label_kinds, text_kinds, statement_kinds, section_kinds, part_kinds, argument_kinds, arguments_kinds, member_kinds, members_kinds}
+use Rattle.cs_print.specs.Printed.{Kinds, joined, listed, behind_commas, of_type, whole, printed, type_kinds, type_kind_kinds, label_kinds, text_kinds, statement_kinds, section_kinds, part_kinds}
+use Rattle.cs_print.specs.PrintedMembers.{argument_kinds, arguments_kinds, member_kinds, members_kinds}
 use Rattle.cs_print.specs.Layout.{laid, code_text}
 use Rattle.cs_print.proofs.TextLaws.{text_alone, text_behind, text_nothing, labels_text, texts_text, statements_text, sections_text, values_text, parts_text, arguments_text, members_text}
 

@@ -5,8 +5,9 @@ ghost use Rattle.cs_ast.specs.declared.member.MemberKind.TheVariants as mk;
 ghost use Rattle.cs_token.specs.declared.token.TokenKind.TheVariants as k;
 ghost use Rattle.cs_token.specs.declared.token.Sign.TheVariants as s;
 ghost use Rattle.cs_print.specs.Layout.{code_text};
-ghost use Rattle.cs_print.specs.Printed as spec;
-ghost use Rattle.cs_print.specs.Printed.{in_round, behind_commas, argument_kinds, arguments_kinds, member_kinds, members_kinds, printed, whole};
+ghost use Rattle.cs_print.specs.PrintedMembers as spec;
+ghost use Rattle.cs_print.specs.Printed.{in_round, behind_commas, ended, printed, whole};
+ghost use Rattle.cs_print.specs.PrintedMembers.{argument_kinds, arguments_kinds, member_kinds, members_kinds};
 
 use crate::expressions::push_whole;
 use crate::statements::{push_block, push_initial};
@@ -105,7 +106,7 @@ fn push_result(out: &mut Txt, cs_type: &Option<TypeExpr>) -> Result<(), Oom>
 
 #[tactic(auto, using(crate::proofs::TextLaws::text_then, crate::proofs::TextLaws::text_behind, crate::proofs::TextLaws::text_alone))]
 fn push_arrow(alloc: Global, out: &mut Txt, a: &Expr) -> Result<(), Oom>
-    ensures { OnOk result (out.new ≡ out.old ++ code_text (k.Sign s.Arrow ∷ spec.ended (whole (printed a.now)))) }
+    ensures { OnOk result (out.new ≡ out.old ++ code_text (k.Sign s.Arrow ∷ ended (whole (printed a.now)))) }
 {
     push_sign(out, Sign::Arrow)?;
     push_whole(alloc, out, a)?;
@@ -158,7 +159,7 @@ fn push_mark(out: &mut Txt, name: &str) -> Result<(), Oom>
     push_sign(out, Sign::CloseSquare)
 }
 
-#[tactic(auto, using(crate::proofs::TextLaws::text_then, crate::proofs::TextLaws::text_behind, crate::proofs::TextLaws::text_alone), unfolding(crate::specs::Printed::source_kinds))]
+#[tactic(auto, using(crate::proofs::TextLaws::text_then, crate::proofs::TextLaws::text_behind, crate::proofs::TextLaws::text_alone), unfolding(crate::specs::PrintedMembers::source_kinds))]
 fn push_source(out: &mut Txt, source: &Txt) -> Result<(), Oom>
     ensures { OnOk result (out.new ≡ out.old ++ code_text (spec.source_kinds source.now)) }
 {
@@ -191,7 +192,7 @@ fn push_attribute(out: &mut Txt, cascading: bool, source: &Option<Txt>) -> Resul
     }
 }
 
-#[tactic(auto, using(crate::proofs::TextLaws::text_then, crate::proofs::TextLaws::text_behind, crate::proofs::TextLaws::text_alone), unfolding(crate::specs::Printed::member_kinds))]
+#[tactic(auto, using(crate::proofs::TextLaws::text_then, crate::proofs::TextLaws::text_behind, crate::proofs::TextLaws::text_alone), unfolding(crate::specs::PrintedMembers::member_kinds))]
 fn push_field(
     alloc: Global,
     out: &mut Txt,
@@ -224,7 +225,7 @@ fn push_property(
     push_property_end(alloc, out, initial)
 }
 
-#[tactic(auto, using(crate::proofs::TextLaws::text_then, crate::proofs::TextLaws::text_behind, crate::proofs::TextLaws::text_alone), unfolding(crate::specs::Printed::member_kinds))]
+#[tactic(auto, using(crate::proofs::TextLaws::text_then, crate::proofs::TextLaws::text_behind, crate::proofs::TextLaws::text_alone), unfolding(crate::specs::PrintedMembers::member_kinds))]
 fn push_method(
     alloc: Global,
     out: &mut Txt,
@@ -241,7 +242,7 @@ fn push_method(
     push_method_body(alloc, out, body)
 }
 
-#[tactic(auto, using(crate::proofs::TextLaws::text_then, crate::proofs::TextLaws::text_behind, crate::proofs::TextLaws::text_alone), unfolding(crate::specs::Printed::member_kinds))]
+#[tactic(auto, using(crate::proofs::TextLaws::text_then, crate::proofs::TextLaws::text_behind, crate::proofs::TextLaws::text_alone), unfolding(crate::specs::PrintedMembers::member_kinds))]
 fn push_getter(
     alloc: Global,
     out: &mut Txt,
@@ -256,7 +257,7 @@ fn push_getter(
     push_arrow(alloc, out, value)
 }
 
-#[tactic(auto, using(crate::proofs::TextLaws::text_then, crate::proofs::TextLaws::text_behind, crate::proofs::TextLaws::text_alone), unfolding(crate::specs::Printed::member_kinds))]
+#[tactic(auto, using(crate::proofs::TextLaws::text_then, crate::proofs::TextLaws::text_behind, crate::proofs::TextLaws::text_alone), unfolding(crate::specs::PrintedMembers::member_kinds))]
 fn push_record(out: &mut Txt, name: &Ident, parts: &[Argument]) -> Result<(), Oom>
     ensures { OnOk result (out.new ≡ out.old ++ code_text (member_kinds (mk.RecordDef name.now parts.now))) }
 {
@@ -266,7 +267,7 @@ fn push_record(out: &mut Txt, name: &Ident, parts: &[Argument]) -> Result<(), Oo
     push_sign(out, Sign::Semicolon)
 }
 
-#[tactic(auto, using(crate::proofs::TextLaws::text_then, crate::proofs::TextLaws::text_behind, crate::proofs::TextLaws::text_alone), unfolding(crate::specs::Printed::member_kinds))]
+#[tactic(auto, using(crate::proofs::TextLaws::text_then, crate::proofs::TextLaws::text_behind, crate::proofs::TextLaws::text_alone), unfolding(crate::specs::PrintedMembers::member_kinds))]
 fn push_parameter(
     alloc: Global,
     out: &mut Txt,

@@ -6,7 +6,8 @@ ghost use Rattle.cs_grammar.specs.Statements.{SpelledStatements};
 ghost use Rattle.cs_print.specs.Again.{IsSpelled, SpellsAgain};
 ghost use Rattle.cs_print.specs.Alike.{Alike, AlikeAllStatements, AlikeMembers, Each};
 ghost use Rattle.cs_print.specs.Layout.{code_text};
-ghost use Rattle.cs_print.specs.Printed.{whole, printed, statements_kinds, members_kinds};
+ghost use Rattle.cs_print.specs.Printed.{whole, printed, statements_kinds};
+ghost use Rattle.cs_print.specs.PrintedMembers.{members_kinds};
 
 use crate::expressions::push_whole;
 use crate::lists::push_statements;

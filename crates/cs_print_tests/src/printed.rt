@@ -56,7 +56,10 @@ fn brackets_stand_where_a_part_holds_less(rt: HostRuntime) -> Result<(), Fail> {
         ("(a?.b)?.c", "( a ?. b ) ?. c "),
         ("(string)(a+b)", "( string ) ( a + b ) "),
         ("(a with{b=1}).c", "( a with { b = 1 } ) . c "),
-        ("a with{b=1,c=d} with{}", "a with { b = 1 , c = d } with { } "),
+        (
+            "a with{b=1,c=d} with{e=f}",
+            "a with { b = 1 , c = d } with { e = f } ",
+        ),
         ("f(a,(b))[i+1]", "f ( a , b ) [ i + 1 ] "),
         ("new A(1,null)", "new A ( 1 , null ) "),
         ("ImmutableList<A?>.Empty", "ImmutableList < A > . Empty "),
@@ -99,12 +102,24 @@ fn statements_stand_one_behind_another(rt: HostRuntime) -> Result<(), Fail> {
         ("", ""),
         ("n=1;n++;", "n = 1 ; n ++ ; "),
         ("string? a;var b=a;", "string a ; var b = a ; "),
-        ("if(a)b();else if(c)d();", "if ( a ) b ( ) ; else if ( c ) d ( ) ; "),
-        ("if(a){if(b)c();}else d();", "if ( a ) { if ( b ) c ( ) ; } else d ( ) ; "),
+        (
+            "if(a)b();else if(c)d();",
+            "if ( a ) b ( ) ; else if ( c ) d ( ) ; ",
+        ),
+        (
+            "if(a){if(b)c();}else d();",
+            "if ( a ) { if ( b ) c ( ) ; } else d ( ) ; ",
+        ),
         ("while(true){break;}", "while ( true ) { break ; } "),
-        ("for(int i=0;i<3;i++)continue;", "for ( int i = 0 ; i < 3 ; i ++ ) continue ; "),
+        (
+            "for(int i=0;i<3;i++)continue;",
+            "for ( int i = 0 ; i < 3 ; i ++ ) continue ; ",
+        ),
         ("for(;;);", "for ( ; ; ) ; "),
-        ("foreach(var a in b)f(a);", "foreach ( var a in b ) f ( a ) ; "),
+        (
+            "foreach(var a in b)f(a);",
+            "foreach ( var a in b ) f ( a ) ; ",
+        ),
         (
             "switch(a){case -1:case \"x\":return 1;default:return;}",
             "switch ( a ) { case - 1 : case \"x\" : return 1 ; default : return ; } ",
@@ -124,16 +139,28 @@ fn members_stand_one_behind_another(rt: HostRuntime) -> Result<(), Fail> {
     let alloc = rt.alloc();
     for (text, expected) in [
         ("private int n=0;", "int n = 0 ; "),
-        ("[Parameter]public int N{get;set;}=3;", "[ Parameter ] int N { get ; set ; } = 3 ; "),
+        (
+            "[Parameter]public int N{get;set;}=3;",
+            "[ Parameter ] int N { get ; set ; } = 3 ; ",
+        ),
         (
             "[CascadingParameter(Name=\"a\")]A B{get;set;}",
             "[ CascadingParameter ( Name = \"a\" ) ] A B { get ; set ; } ",
         ),
         ("public int N{get;set;}", "int N ; "),
         ("int Twice=>n*2;", "int Twice => n * 2 ; "),
-        ("async Task F(){await G.InvokeAsync();}", "void F ( ) { await G . InvokeAsync ( ) ; } "),
-        ("record? F(int a,string? b)=>null;", "record ? F ( int a , string b ) => null ; "),
-        ("record A(int B,ImmutableList<A> C);", "record A ( int B , ImmutableList < A > C ) ; "),
+        (
+            "async Task F(){await G.InvokeAsync();}",
+            "void F ( ) { await G . InvokeAsync ( ) ; } ",
+        ),
+        (
+            "record? F(int a,string? b)=>null;",
+            "record ? F ( int a , string b ) => null ; ",
+        ),
+        (
+            "record A(int B,ImmutableList<A> C);",
+            "record A ( int B , ImmutableList < A > C ) ; ",
+        ),
     ] {
         let once = printed_members(alloc, text)?;
         assert_eq!(rt; once.as_str(), expected, "{text}");
