@@ -17,6 +17,9 @@ mod tokens;
 mod types;
 
 pub use expressions::{push_at, push_whole};
+pub use labels::push_labels;
 pub use lists::push_statements;
 pub use members::push_members;
 pub use print::{print_expression, print_members, print_statements};
+pub use statements::{push_in_round, push_optional, push_statement};
+pub use tokens::{push_name, push_sign, push_word};

@@ -111,7 +111,7 @@ fn push_await(alloc: Global, out: &mut Txt, a: &Expr) -> Result<(), Oom>
 /// An expression, if there is one.
 #[cycle(code)]
 #[tactic(auto, using(crate::proofs::TextLaws::text_then, crate::proofs::TextLaws::text_behind, crate::proofs::TextLaws::text_alone, crate::proofs::TextLaws::text_nothing))]
-fn push_optional(alloc: Global, out: &mut Txt, a: &Option<Expr>) -> Result<(), Oom>
+pub fn push_optional(alloc: Global, out: &mut Txt, a: &Option<Expr>) -> Result<(), Oom>
     ensures { OnOk result (out.new ≡ out.old ++ code_text (spec.optional (option_map printed a.now))) }
 {
     match a {
@@ -176,7 +176,7 @@ fn push_local(
 /// An expression in brackets.
 #[cycle(code)]
 #[tactic(auto, using(crate::proofs::TextLaws::text_then, crate::proofs::TextLaws::text_behind, crate::proofs::TextLaws::text_alone))]
-fn push_in_round(alloc: Global, out: &mut Txt, a: &Expr) -> Result<(), Oom>
+pub fn push_in_round(alloc: Global, out: &mut Txt, a: &Expr) -> Result<(), Oom>
     ensures { OnOk result (out.new ≡ out.old ++ code_text (in_round (whole (printed a.now)))) }
 {
     push_sign(out, Sign::OpenRound)?;
