@@ -1,5 +1,5 @@
 -- Which kinds of tokens can be written one behind another.
-use Rattle.std.proofs.Common.{◌≡◌, ◌≢◌, ℕ, ◌<◌, ◌^◌, ℤ, pos, List, [], ◌∷◌, ◌++◌, length, true, false, refl, sym, ap, subst, append_assoc}
+use Rattle.std.proofs.Common.{◌≡◌, ◌≢◌, ℕ, ◌<◌, ◌^◌, pos, List, [], ◌∷◌, ◌++◌, length, true, false, sym, subst, append_assoc}
 use Rattle.std.specs.Prelude.{Bool}
 use Rattle.cs_token.specs.declared.token.TokenKind.{TokenKind}
 use Rattle.cs_token.specs.declared.token.TokenKind.TheVariants as k

@@ -1,14 +1,11 @@
 -- Each form of expression that is printed is spelled again, where its parts are.
-use Rattle.std.proofs.Common.{◌≡◌, ℕ, ◌≤◌, ℤ, List, [], ◌∷◌, ◌++◌, map, true, false, inl, inr, refl, sym, ap, ◌∙◌, subst, arith}
-use Rattle.std.specs.Prelude.{Bool, Some, None, codes, nat_le, if◌then◌else◌}
+use Rattle.std.proofs.Common.{◌≡◌, ℕ, ◌≤◌, ℤ, List, [], ◌∷◌, true, false, inl, inr, refl, sym, ◌∙◌, subst, arith}
+use Rattle.std.specs.Prelude.{Some, nat_le}
 use Rattle.std.proofs.lemmas.Bool.{cases_Bool, leb-true}
 use Rattle.text_core.specs.declared.place.Place.{Place}
-use Rattle.cs_ast.specs.declared.cs_type.TypeExpr.{TypeExpr}
 use Rattle.cs_ast.specs.declared.expression.Expr.{Expr}
 use Rattle.cs_ast.specs.declared.expression.ExprKind.{ExprKind}
 use Rattle.cs_ast.specs.declared.expression.ExprKind.TheVariants as ek
-use Rattle.cs_ast.specs.declared.expression.TextPart.{TextPart}
-use Rattle.cs_ast.specs.declared.expression.WithPart.{WithPart}
 use Rattle.cs_ast.specs.declared.operators.BinaryOp.{BinaryOp}
 use Rattle.cs_ast.specs.declared.operators.BinaryOp.TheVariants as bo
 use Rattle.cs_ast.specs.declared.operators.CastOp.TheVariants as co
@@ -19,14 +16,13 @@ use Rattle.cs_ast.specs.declared.operators.UnaryOp.TheVariants as uo
 use Rattle.cs_token.specs.declared.token.Token.{Token}
 use Rattle.cs_token.specs.declared.token.TokenKind.{TokenKind}
 use Rattle.cs_token.specs.declared.token.TokenKind.TheVariants as k
-use Rattle.cs_token.specs.declared.token.Sign.{Sign}
 use Rattle.cs_token.specs.declared.token.Sign.TheVariants as s
 use Rattle.cs_token.specs.declared.token.Word.{Word}
 use Rattle.cs_token.specs.declared.token.Word.TheVariants as w
 use Rattle.cs_grammar.specs.Expressions.{node, Spells, Arguments, Values, WithParts, TextParts}
 use Rattle.cs_grammar.specs.Expressions as g
-use Rattle.cs_grammar.specs.Tables.{operator, level, left_level, right_level, unary_operator, literal, static_type}
-use Rattle.cs_grammar.specs.Tokens.{IsSign, IsWord, IsName, ident}
+use Rattle.cs_grammar.specs.Tables.{operator, left_level, right_level, unary_operator, literal, static_type}
+use Rattle.cs_grammar.specs.Tokens.{ident}
 use Rattle.cs_print.specs.Alike.{Alike, AlikeKinds}
 use Rattle.cs_print.specs.Alike as al
 use Rattle.cs_print.specs.Printed.{Kinds, Printed, at_level, whole, postfix, in_round, in_braces, listed, joined, of_type, operator_sign, unary_sign, static_word, truth_word, type_kinds, printed, printed_kind, part_kinds, text_kinds}
@@ -35,8 +31,7 @@ use Rattle.cs_print.proofs.PrintedLaws as law
 use Rattle.cs_print.proofs.CodeKinds.{is_single, IsCode, AreParts, IsLexeme}
 use Rattle.cs_print.proofs.CodeKinds as c
 use Rattle.cs_print.proofs.LayLemmas.{Are}
-use Rattle.cs_print.proofs.ReadLemmas.{Prints, prints_as, first, single, parted, middle, ended, signed, worded, named, up_to}
-use Rattle.cs_print.proofs.TypesAgain.{TypeAgain, Writes, Bracketed, bracketed, of_type_code}
+use Rattle.cs_print.proofs.ReadLemmas.{Prints, first, single, middle, ended, signed, worded, named, up_to}
 
 -- an expression like this one is spelled at a level
 pub record Reads (l : ℕ) (a : Expr) (ts rest : List Token) : Type 0 where

@@ -1,12 +1,10 @@
 -- Forms of expression with lists in them, printed and spelled again.
-use Rattle.std.proofs.Common.{◌≡◌, ℕ, ◌≤◌, ◌<◌, List, [], ◌∷◌, ◌++◌, length, map, true, false, refl, sym, ap, ◌∙◌, subst, append_assoc}
-use Rattle.std.specs.Prelude.{Bool, Some, None, codes}
-use Rattle.std.specs.List.{flat_map}
+use Rattle.std.proofs.Common.{◌≡◌, ℕ, ◌<◌, List, [], ◌∷◌, ◌++◌, length, map, false, refl, sym, ap, ◌∙◌, subst, append_assoc}
+use Rattle.std.specs.Prelude.{codes}
 use Rattle.std.proofs.lemmas.List.{append-nil}
 use Rattle.text_core.specs.declared.place.Place.{Place}
 use Rattle.cs_ast.specs.declared.cs_type.TypeExpr.{TypeExpr}
 use Rattle.cs_ast.specs.declared.expression.Expr.{Expr}
-use Rattle.cs_ast.specs.declared.expression.ExprKind.{ExprKind}
 use Rattle.cs_ast.specs.declared.expression.ExprKind.TheVariants as ek
 use Rattle.cs_ast.specs.declared.expression.TextPart.{TextPart}
 use Rattle.cs_ast.specs.declared.expression.TextPart.TheVariants as tp
@@ -17,7 +15,7 @@ use Rattle.cs_token.specs.declared.token.Sign.TheVariants as s
 use Rattle.cs_token.specs.declared.token.Word.TheVariants as w
 use Rattle.cs_grammar.specs.Expressions.{node, with_part, Spells, Arguments, Values, WithParts, TextParts}
 use Rattle.cs_grammar.specs.Expressions as g
-use Rattle.cs_grammar.specs.Tokens.{IsSign, IsName, ident}
+use Rattle.cs_grammar.specs.Tokens.{ident}
 use Rattle.cs_print.specs.Alike.{Alike, AlikeKinds, AlikeAll, AlikeAllTexts, AlikeAllParts}
 use Rattle.cs_print.specs.Alike as al
 use Rattle.cs_print.specs.Printed.{Kinds, Printed, at_level, whole, in_round, in_braces, in_hole, listed, behind_commas, joined, of_type, given, type_kinds, printed, part_kinds, text_kinds}
@@ -27,9 +25,9 @@ use Rattle.cs_print.proofs.CodeKinds.{begins_part, IsCode, AreParts, IsLexeme}
 use Rattle.cs_print.proofs.CodeKinds as c
 use Rattle.cs_print.proofs.LayLemmas.{Are}
 use Rattle.cs_print.proofs.LayLemmas as r
-use Rattle.cs_print.proofs.ReadLemmas.{Prints, prints_as, first, single, parted, middle, ended, signed, worded, named, up_to}
-use Rattle.cs_print.proofs.TypesAgain.{TypeAgain, Bracketed, bracketed, of_type_code}
-use Rattle.cs_print.proofs.ExpressionForms.{Reads, Again, ExprAgain, made, at, all, bracketed_code}
+use Rattle.cs_print.proofs.ReadLemmas.{Prints, prints_as, first, single, middle, ended, signed, worded, named, up_to}
+use Rattle.cs_print.proofs.TypesAgain.{TypeAgain, bracketed, of_type_code}
+use Rattle.cs_print.proofs.ExpressionForms.{Reads, Again, ExprAgain, made, at, all}
 
 -- values with commas between them
 

@@ -1,10 +1,9 @@
 -- Each expression that tokens of a text spell is printed so that it is spelled again.
-use Rattle.std.proofs.Common.{◌≡◌, ℕ, List, [], ◌∷◌, ◌++◌, map, true, false, refl, sym, ap, ◌∙◌, subst}
-use Rattle.std.specs.Prelude.{Bool, Some, None, codes}
+use Rattle.std.proofs.Common.{◌≡◌, ℕ, List, [], ◌∷◌, ◌++◌, map, true, false, refl, sym, ap, ◌∙◌}
+use Rattle.std.specs.Prelude.{Bool}
 use Rattle.std.proofs.lemmas.Bool.{false≢true}
 use Rattle.text_core.specs.declared.place.Place.{Place}
 use Rattle.cs_ast.specs.declared.expression.Expr.{Expr}
-use Rattle.cs_ast.specs.declared.expression.ExprKind.TheVariants as ek
 use Rattle.cs_ast.specs.declared.expression.TextPart.{TextPart}
 use Rattle.cs_ast.specs.declared.expression.WithPart.{WithPart}
 use Rattle.cs_token.specs.declared.token.Token.{Token}

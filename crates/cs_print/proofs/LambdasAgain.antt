@@ -1,18 +1,17 @@
 -- What may stand by itself is printed so that it is spelled again.
-use Rattle.std.proofs.Common.{◌≡◌, ℕ, List, [], ◌∷◌, ◌++◌, map, true, false, refl, sym, ap, ◌∙◌, subst}
-use Rattle.std.specs.Prelude.{Bool, Option, Some, None}
+use Rattle.std.proofs.Common.{◌≡◌, ℕ, List, [], ◌∷◌, refl, sym, ap, ◌∙◌, subst}
+use Rattle.std.specs.Prelude.{Some, None}
 use Rattle.text_core.specs.declared.place.Place.{Place}
 use Rattle.cs_ast.specs.declared.expression.Body.{Body}
 use Rattle.cs_ast.specs.declared.expression.Body.TheVariants as by
 use Rattle.cs_ast.specs.declared.expression.Expr.{Expr}
 use Rattle.cs_ast.specs.declared.expression.ExprKind.TheVariants as ek
-use Rattle.cs_ast.specs.declared.expression.Stmt.{Stmt}
 use Rattle.cs_ast.specs.declared.operators.CastOp.TheVariants as co
 use Rattle.cs_token.specs.declared.token.Token.{Token}
 use Rattle.cs_token.specs.declared.token.TokenKind.TheVariants as k
 use Rattle.cs_token.specs.declared.token.Sign.TheVariants as s
 use Rattle.cs_token.specs.declared.token.Word.TheVariants as w
-use Rattle.cs_grammar.specs.Expressions.{node, Spells}
+use Rattle.cs_grammar.specs.Expressions.{node}
 use Rattle.cs_grammar.specs.Lambdas.{LambdaBody, SpelledValue}
 use Rattle.cs_grammar.specs.Lambdas as g
 use Rattle.cs_grammar.specs.Statements.{no_jumps}

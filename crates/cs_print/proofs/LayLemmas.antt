@@ -1,32 +1,27 @@
 -- The text of such tokens is cut into them again.
-use Rattle.std.proofs.Common.{◌≡◌, ◌≢◌, ℕ, ◌+◌, ◌<◌, ◌≤◌, pos, List, [], ◌∷◌, ◌++◌, length, true, false, Some, None, refl, sym, ap, ◌∙◌, subst, append_assoc, arith}
+use Rattle.std.proofs.Common.{◌≡◌, ◌≢◌, ℕ, ◌<◌, ◌≤◌, pos, List, [], ◌∷◌, ◌++◌, length, true, false, Some, None, refl, sym, ap, ◌∙◌, subst, append_assoc, arith}
 use Rattle.std.specs.Prelude.{Bool, not, eqb, ◌||◌, codes}
 use Rattle.std.specs.declared.option.Option.{Option}
 use Rattle.std.specs.List.{flat_map}
 use Rattle.std.specs.Fmt.{decimal}
 use Rattle.std.proofs.lemmas.Bool.{false≢true, or_parts}
 use Rattle.std.proofs.lemmas.List.{append-nil}
-use Rattle.std.proofs.lemmas.List.Concat.{flat_map-append}
 use Rattle.text_core.specs.declared.place.Place.{Place}
 use Rattle.cs_token.specs.declared.around.Around.{Around}
 use Rattle.cs_token.specs.declared.around.Around.TheVariants as around
 use Rattle.cs_token.specs.declared.around.Opened.{Opened}
-use Rattle.cs_token.specs.declared.characters.Class.TheVariants as class
 use Rattle.cs_token.specs.declared.token.Token.{Token}
 use Rattle.cs_token.specs.declared.token.TokenKind.{TokenKind}
 use Rattle.cs_token.specs.declared.token.TokenKind.TheVariants as k
 use Rattle.cs_token.specs.declared.token.Sign.{Sign}
 use Rattle.cs_token.specs.declared.token.Sign.TheVariants as s
-use Rattle.cs_token.specs.declared.token.Word.{Word}
-use Rattle.cs_token.specs.Characters.{is_in, begins_with}
 use Rattle.cs_token.specs.Lexemes.{is_code, keeps_line, Stands, IsGap, IsLongest}
 use Rattle.cs_token.specs.Lexemes as g
 use Rattle.cs_token.specs.Places.{place_after}
 use Rattle.cs_token.specs.Signs.{mark, is_of_code}
-use Rattle.cs_token.specs.Spelling.{innermost, with_open, closed, with_brace, behind_sign, behind_kind, Moment, Piece, Step, step, beginning, tokens_among, token_there, Spells}
+use Rattle.cs_token.specs.Spelling.{innermost, with_open, closed, with_brace, behind_sign, behind_kind, Moment, Piece, Step, step, tokens_among, Spells}
 use Rattle.cs_token.specs.Walks.{Walk}
 use Rattle.cs_token.specs.Walks as walk
-use Rattle.cs_token.specs.Words.{spelling}
 use Rattle.cs_token.specs.Written as written
 use Rattle.cs_token.proofs.LexLemmas.{step-before}
 use Rattle.cs_print.specs.Printed.{Kinds}

@@ -1,6 +1,6 @@
 -- Trees that are alike look alike at their roots.
 use Rattle.std.proofs.Common.{◌≡◌, ℕ, List, [], ◌∷◌, true, false, refl, sym, ap, ◌∙◌, subst}
-use Rattle.std.specs.Prelude.{Bool, codes, Option, Some, None, bytes_eq}
+use Rattle.std.specs.Prelude.{Bool, codes, Some, None, bytes_eq}
 use Rattle.std.specs.Bool.{Decides}
 use Rattle.std.proofs.lemmas.Slice.Eq.{bytes_eq-Decides}
 use Rattle.text_core.specs.declared.place.Place.{Place}

@@ -1,13 +1,10 @@
 -- Each member that tokens of a text spell is printed so that it is spelled again.
-use Rattle.std.proofs.Common.{◌≡◌, ℕ, List, [], ◌∷◌, ◌++◌, map, true, false, inl, inr, ◌⊎◌, refl, sym, ap, ◌∙◌, subst, append_assoc}
-use Rattle.std.specs.Prelude.{Bool, Option, Some, None, option_map, codes, bytes_eq, if◌then◌else◌}
-use Rattle.std.proofs.lemmas.Bool.{cases_Bool, false≢true}
+use Rattle.std.proofs.Common.{ℕ, List, [], ◌∷◌, ◌++◌, map, refl, sym, ap, append_assoc}
+use Rattle.std.specs.Prelude.{Option, Some, None, option_map, codes}
 use Rattle.std.proofs.lemmas.List.{append-nil}
 use Rattle.text_core.specs.declared.place.Place.{Place}
 use Rattle.cs_ast.specs.declared.cs_type.TypeExpr.{TypeExpr}
-use Rattle.cs_ast.specs.declared.cs_type.TypeKind.{TypeKind, out-TypeKind}
-use Rattle.cs_ast.specs.declared.cs_type.TypeKind.TheOpen.{TypeKind-F}
-use Rattle.cs_ast.specs.declared.expression.Body.{Body, out-Body}
+use Rattle.cs_ast.specs.declared.expression.Body.{Body}
 use Rattle.cs_ast.specs.declared.expression.Body.TheOpen.{Body-F}
 use Rattle.cs_ast.specs.declared.expression.Body.TheVariants as by
 use Rattle.cs_ast.specs.declared.expression.Expr.{Expr}
@@ -18,32 +15,25 @@ use Rattle.cs_ast.specs.declared.expression.StmtKind.{StmtKind}
 use Rattle.cs_ast.specs.declared.expression.TextPart.{TextPart}
 use Rattle.cs_ast.specs.declared.expression.WithPart.{WithPart}
 use Rattle.cs_ast.specs.declared.member.Argument.{Argument}
-use Rattle.cs_ast.specs.declared.member.Member.{Member}
-use Rattle.cs_ast.specs.declared.member.MemberKind.{MemberKind}
-use Rattle.cs_ast.specs.declared.member.MemberKind.TheVariants as mk
 use Rattle.cs_token.specs.declared.token.Token.{Token}
-use Rattle.cs_token.specs.declared.token.TokenKind.{TokenKind}
 use Rattle.cs_token.specs.declared.token.TokenKind.TheVariants as k
 use Rattle.cs_token.specs.declared.token.Sign.TheVariants as s
-use Rattle.cs_token.specs.declared.token.Word.TheVariants as w
 use Rattle.cs_grammar.specs.Members.{SomeArguments, ArgumentList, Result, MethodBody, Accessors, PropertyEnd}
 use Rattle.cs_grammar.specs.Members as g
 use Rattle.cs_grammar.specs.Statements.{no_jumps}
-use Rattle.cs_grammar.specs.Tokens.{IsSign, IsName, ident}
-use Rattle.cs_grammar.specs.Types as gt
+use Rattle.cs_grammar.specs.Tokens.{ident}
 use Rattle.cs_print.specs.Alike.{Alike, AlikeTypes, AlikeBodies, AlikeOption, AlikeArguments, Each, Both}
 use Rattle.cs_print.specs.Alike as al
 use Rattle.cs_print.specs.Printed.{Kinds, Printed, whole, in_round, in_braces, listed, behind_commas, ended, type_kinds, printed}
-use Rattle.cs_print.specs.PrintedMembers.{in_square, argument_kinds, arguments_kinds, result_kinds, method_body, accessors, property_end, attribute_kinds, is_record}
+use Rattle.cs_print.specs.PrintedMembers.{arguments_kinds, method_body, accessors, property_end}
 use Rattle.cs_print.specs.Printed as p
 use Rattle.cs_print.proofs.CodeKinds.{IsCode, IsLexeme}
 use Rattle.cs_print.proofs.CodeKinds as c
 use Rattle.cs_print.proofs.LayLemmas.{Are}
-use Rattle.cs_print.proofs.LayLemmas as r
 use Rattle.cs_print.proofs.ReadLemmas as rd
 use Rattle.cs_print.proofs.ReadLemmas.{Prints, prints_as, first, single, parted, middle, signed, worded, named, up_to, AreProper, later, lexeme}
-use Rattle.cs_print.proofs.TypesAgain.{TypeAgain, Writes, type_again}
-use Rattle.cs_print.proofs.ExpressionForms.{all, bracketed_code}
+use Rattle.cs_print.proofs.TypesAgain.{TypeAgain, type_again}
+use Rattle.cs_print.proofs.ExpressionForms.{all}
 use Rattle.cs_print.proofs.ExpressionsAgain.{expression}
 use Rattle.cs_print.proofs.SimpleAgain.{nothing_read}
 use Rattle.cs_print.proofs.StatementForms as sf

@@ -1,6 +1,6 @@
 -- The equations of what trees are printed as.
-use Rattle.std.proofs.Common.{◌≡◌, ℕ, List, [], ◌∷◌, ◌++◌, map, refl, sym, ap, ◌∙◌}
-use Rattle.std.specs.Prelude.{ℤ, Bool, Option, Some, None, option_map, codes}
+use Rattle.std.proofs.Common.{◌≡◌, ℕ, List, [], ◌∷◌, map, sym, ap, ◌∙◌}
+use Rattle.std.specs.Prelude.{ℤ, Bool, Option, Some, None, option_map}
 use Rattle.std.specs.List.{flat_map}
 use Rattle.std.proofs.lemmas.List.Folds.{flat_map-map}
 use Rattle.cs_ast.specs.declared.cs_type.TypeExpr.{TypeExpr}

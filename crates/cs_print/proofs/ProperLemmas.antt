@@ -1,18 +1,15 @@
 -- The tokens of a text can be written again.
-use Rattle.std.proofs.Common.{◌≡◌, ℕ, cond, ◌<◌, ◌≤◌, ◌^◌, ◌-◌, ℤ, pos, List, [], ◌∷◌, ◌++◌, length, true, false, Some, None, inl, inr, refl, sym, ap, ◌∙◌, subst, append_assoc, arith}
+use Rattle.std.proofs.Common.{◌≡◌, ℕ, cond, ◌<◌, ◌^◌, ◌-◌, ℤ, pos, List, [], ◌∷◌, ◌++◌, length, true, false, Some, None, refl, sym, ap, ◌∙◌, subst, append_assoc, arith}
 use Rattle.std.specs.Prelude.{Bool, eqb, ◌&&◌, nat_lt, nat_le}
 use Rattle.std.specs.declared.option.Option.{Option}
 use Rattle.std.specs.Str.{all_ascii_digits}
-use Rattle.std.proofs.lemmas.Bool.{false≢true, and_parts, cases_Bool, leb-true, ne_eqb}
+use Rattle.std.proofs.lemmas.Bool.{false≢true, and_parts, leb-true, ne_eqb}
 use Rattle.text_core.specs.Decimal.{i32_of, says_at_most, value_behind}
 use Rattle.cs_token.specs.declared.around.Around.{Around}
-use Rattle.cs_token.specs.declared.around.Around.TheVariants as around
-use Rattle.cs_token.specs.declared.around.Opened.{Opened}
 use Rattle.cs_token.specs.declared.characters.Class.TheVariants as class
 use Rattle.cs_token.specs.declared.token.Token.{Token}
 use Rattle.cs_token.specs.declared.token.TokenKind.{TokenKind}
 use Rattle.cs_token.specs.declared.token.TokenKind.TheVariants as k
-use Rattle.cs_token.specs.declared.token.Sign.TheVariants as s
 use Rattle.cs_token.specs.Characters.{is_in, IsRun}
 use Rattle.cs_token.specs.Lexemes.{is_code, Stands}
 use Rattle.cs_token.specs.Lexemes as g

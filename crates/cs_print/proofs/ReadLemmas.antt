@@ -1,11 +1,10 @@
 -- Tokens of given kinds, and what they spell.
-use Rattle.std.proofs.Common.{◌≡◌, ℕ, List, [], ◌∷◌, ◌++◌, true, false, refl, sym, subst}
+use Rattle.std.proofs.Common.{◌≡◌, ℕ, List, [], ◌∷◌, ◌++◌, true, false, subst}
 use Rattle.std.specs.Prelude.{Bool}
 use Rattle.cs_token.specs.declared.token.Token.{Token}
 use Rattle.cs_token.specs.declared.token.TokenKind.{TokenKind}
 use Rattle.cs_token.specs.declared.token.TokenKind.TheVariants as k
 use Rattle.cs_token.specs.declared.token.Sign.{Sign}
-use Rattle.cs_token.specs.declared.token.Sign.TheVariants as s
 use Rattle.cs_token.specs.declared.token.Word.{Word}
 use Rattle.cs_print.specs.Printed.{Kinds}
 use Rattle.cs_print.proofs.CodeKinds.{is_single, is_part, IsLexeme, IsCode}

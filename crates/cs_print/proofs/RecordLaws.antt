@@ -1,5 +1,5 @@
 -- The type `record`, and bodies of methods, by their forms.
-use Rattle.std.proofs.Common.{◌≡◌, ℕ, List, ◌∷◌, map, true, false, refl, ap, ◌∙◌}
+use Rattle.std.proofs.Common.{◌≡◌, ℕ, List, ◌∷◌, map, false, ap}
 use Rattle.std.specs.Prelude.{Bool, Option, bytes_eq, codes}
 use Rattle.cs_ast.specs.declared.cs_type.TypeExpr.{TypeExpr}
 use Rattle.cs_ast.specs.declared.cs_type.TypeKind.{TypeKind}

@@ -1,17 +1,15 @@
 -- Each form of statement that is printed is spelled again, where its parts are.
-use Rattle.std.proofs.Common.{◌≡◌, ℕ, ◌≤◌, ◌-◌, List, [], ◌∷◌, ◌++◌, map, true, false, refl, sym, ap, ◌∙◌, subst, append_assoc}
+use Rattle.std.proofs.Common.{◌≡◌, ℕ, List, [], ◌∷◌, ◌++◌, map, true, false, refl, sym, ap, ◌∙◌, subst, append_assoc}
 use Rattle.std.specs.Prelude.{Bool, Option, Some, None, option_map, codes}
 use Rattle.std.proofs.lemmas.List.{append-nil}
 use Rattle.text_core.specs.declared.place.Place.{Place}
 use Rattle.cs_ast.specs.declared.expression.Expr.{Expr}
 use Rattle.cs_ast.specs.declared.expression.ExprKind.TheVariants as ek
-use Rattle.cs_ast.specs.declared.expression.Label.{Label}
 use Rattle.cs_ast.specs.declared.expression.Section.{Section}
 use Rattle.cs_ast.specs.declared.expression.Stmt.{Stmt}
 use Rattle.cs_ast.specs.declared.expression.StmtKind.{StmtKind}
 use Rattle.cs_ast.specs.declared.expression.StmtKind.TheVariants as st
 use Rattle.cs_token.specs.declared.token.Token.{Token}
-use Rattle.cs_token.specs.declared.token.TokenKind.{TokenKind}
 use Rattle.cs_token.specs.declared.token.TokenKind.TheVariants as k
 use Rattle.cs_token.specs.declared.token.Sign.TheVariants as s
 use Rattle.cs_token.specs.declared.token.Word.{Word}
@@ -28,12 +26,10 @@ use Rattle.cs_print.proofs.PrintedLaws as law
 use Rattle.cs_print.proofs.CodeKinds.{IsCode, IsLexeme}
 use Rattle.cs_print.proofs.CodeKinds as c
 use Rattle.cs_print.proofs.LayLemmas.{Are}
-use Rattle.cs_print.proofs.LayLemmas as r
 use Rattle.cs_print.proofs.ReadLemmas as rd
 use Rattle.cs_print.proofs.ReadLemmas.{Prints, prints_as, first, single, parted, middle, signed, worded, named, up_to}
 use Rattle.cs_print.proofs.ExpressionForms.{Reads, ExprAgain, all, bracketed_code}
 use Rattle.cs_print.proofs.SimpleAgain.{ReadsSimple, ReadsStart, ReadsCondition, ReadsStep, nothing_read}
-use Rattle.cs_print.proofs.LabelsAgain.{ReadsLabels, labels_kinds}
 use Rattle.cs_print.proofs.LookLemmas.{invoke_alike}
 
 -- a statement like this one is spelled, where jumps may stand so, and what may follow is so

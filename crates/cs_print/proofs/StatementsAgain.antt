@@ -1,19 +1,13 @@
 -- Each statement that tokens of a text spell is printed so that it is spelled again.
-use Rattle.std.proofs.Common.{◌≡◌, ℕ, ◌≤◌, ◌-◌, List, [], ◌∷◌, ◌++◌, map, true, false, refl, sym, ap, ◌∙◌, subst}
-use Rattle.std.specs.Prelude.{Bool, Option, Some, None, codes}
-use Rattle.text_core.specs.declared.place.Place.{Place}
-use Rattle.cs_ast.specs.declared.expression.Expr.{Expr}
+use Rattle.std.proofs.Common.{ℕ, ◌≤◌, ◌-◌, List, ◌∷◌, ◌++◌, true, false, sym, ap, subst}
+use Rattle.std.specs.Prelude.{Bool}
 use Rattle.cs_ast.specs.declared.expression.Label.{Label}
 use Rattle.cs_ast.specs.declared.expression.Section.{Section}
 use Rattle.cs_ast.specs.declared.expression.Stmt.{Stmt}
-use Rattle.cs_ast.specs.declared.expression.StmtKind.TheVariants as st
 use Rattle.cs_token.specs.declared.token.Token.{Token}
-use Rattle.cs_token.specs.declared.token.TokenKind.TheVariants as k
 use Rattle.cs_grammar.specs.Statements.{stmt, section, Jumps, in_loop, in_switch, Statement, Statements, Sections, Leaves, defaults}
 use Rattle.cs_grammar.specs.Statements as g
-use Rattle.cs_grammar.specs.Tokens.{ident}
 use Rattle.cs_print.specs.Alike as al
-use Rattle.cs_print.specs.Printed.{Kinds, section_kinds}
 use Rattle.cs_print.proofs.PrintedLaws as law
 use Rattle.cs_print.proofs.CodeKinds.{IsLexeme}
 use Rattle.cs_print.proofs.CodeKinds as c

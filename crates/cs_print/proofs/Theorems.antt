@@ -1,10 +1,10 @@
 -- What is printed of a tree that some text spells, spells it again.
-use Rattle.std.proofs.Common.{◌≡◌, ℕ, List, [], refl, sym, subst}
+use Rattle.std.proofs.Common.{◌≡◌, ℕ, List, [], sym, subst}
 use Rattle.cs_ast.specs.declared.expression.Expr.{Expr}
 use Rattle.cs_ast.specs.declared.expression.Stmt.{Stmt}
 use Rattle.cs_ast.specs.declared.member.Member.{Member}
 use Rattle.cs_token.specs.declared.token.Token.{Token}
-use Rattle.cs_grammar.specs.Lambdas.{Spelled, SpelledValue}
+use Rattle.cs_grammar.specs.Lambdas.{Spelled}
 use Rattle.cs_grammar.specs.Members.{SpelledMembers}
 use Rattle.cs_grammar.specs.Statements.{SpelledStatements, no_jumps}
 use Rattle.cs_print.specs.Again.{IsSpelled, SpellsAgain}
@@ -14,7 +14,7 @@ use Rattle.cs_print.specs.Printed.{Kinds, whole, printed, statements_kinds}
 use Rattle.cs_print.specs.PrintedMembers.{members_kinds}
 use Rattle.cs_print.proofs.LayLemmas.{code-spelled}
 use Rattle.cs_print.proofs.ProperLemmas.{proper-tokens}
-use Rattle.cs_print.proofs.LambdasAgain.{Whole, spelled_whole, value_whole}
+use Rattle.cs_print.proofs.LambdasAgain.{Whole, spelled_whole}
 use Rattle.cs_print.proofs.MemberForms.{members_whole}
 use Rattle.cs_print.proofs.ReadLemmas.{AreProper}
 use Rattle.cs_print.proofs.StatementsAgain.{statements}

@@ -1,5 +1,5 @@
 -- Types that are printed are written again.
-use Rattle.std.proofs.Common.{◌≡◌, ℕ, List, [], ◌∷◌, ◌++◌, true, false, refl, sym, ap, ◌∙◌, subst}
+use Rattle.std.proofs.Common.{◌≡◌, ℕ, List, [], ◌∷◌, true, false, refl, sym, ap, ◌∙◌, subst}
 use Rattle.std.specs.Prelude.{Bool, Some, None}
 use Rattle.text_core.specs.declared.place.Place.{Place}
 use Rattle.cs_ast.specs.declared.cs_type.TypeExpr.{TypeExpr}
@@ -10,7 +10,7 @@ use Rattle.cs_token.specs.declared.token.TokenKind.TheVariants as k
 use Rattle.cs_token.specs.declared.token.Sign.TheVariants as s
 use Rattle.cs_token.specs.declared.token.Word.{Word}
 use Rattle.cs_token.specs.declared.token.Word.TheVariants as w
-use Rattle.cs_grammar.specs.Tokens.{IsSign, IsWord, IsName}
+use Rattle.cs_grammar.specs.Tokens.{IsSign, IsWord}
 use Rattle.cs_grammar.specs.Tables.{plain_type}
 use Rattle.cs_grammar.specs.Types.{type_at, WritesType, WritesCore}
 use Rattle.cs_grammar.specs.Types as g

@@ -159,7 +159,6 @@ fn push_mark(out: &mut Txt, name: &str) -> Result<(), Oom>
     push_sign(out, Sign::CloseSquare)
 }
 
-#[tactic(auto, using(crate::proofs::TextLaws::text_then, crate::proofs::TextLaws::text_behind, crate::proofs::TextLaws::text_alone), unfolding(crate::specs::PrintedMembers::source_kinds))]
 fn push_source(out: &mut Txt, source: &Txt) -> Result<(), Oom>
     ensures { OnOk result (out.new ≡ out.old ++ code_text (spec.source_kinds source.now)) }
 {
@@ -180,15 +179,23 @@ fn push_named_mark(out: &mut Txt, source: &Txt) -> Result<(), Oom>
     push_sign(out, Sign::CloseSquare)
 }
 
-fn push_attribute(out: &mut Txt, cascading: bool, source: &Option<Txt>) -> Result<(), Oom>
-    ensures { OnOk result (out.new ≡ out.old ++ code_text (spec.attribute_kinds cascading source.now)) }
+/// The attribute of a parameter that is supplied from above.
+fn push_cascading(out: &mut Txt, source: &Option<Txt>) -> Result<(), Oom>
+    ensures { OnOk result (out.new ≡ out.old ++ code_text (spec.attribute_kinds true source.now)) }
 {
-    if !cascading {
-        return push_mark(out, "Parameter");
-    }
     match source {
         None => push_mark(out, "CascadingParameter"),
         Some(source) => push_named_mark(out, source),
+    }
+}
+
+fn push_attribute(out: &mut Txt, cascading: bool, source: &Option<Txt>) -> Result<(), Oom>
+    ensures { OnOk result (out.new ≡ out.old ++ code_text (spec.attribute_kinds cascading source.now)) }
+{
+    if cascading {
+        push_cascading(out, source)
+    } else {
+        push_mark(out, "Parameter")
     }
 }
 

@@ -1,7 +1,8 @@
-use Rattle.std.proofs.Common.{◌≡◌, rules, ap, ◌∙◌}
+use Rattle.std.proofs.Common.{rules, ap, ◌∙◌}
+use Rattle.std.proofs.lemmas.Result.{on_ok_weaker}
 use Rattle.cs_print.specs.Printed.{statement_kind_kinds}
 use Rattle.cs_print.proofs.PrintedLaws.{stmt_if}
-use Rattle.cs_print.proofs.WrittenLaws.{values_written, parts_written, texts_written, statements_written, sections_written}
+use Rattle.cs_print.proofs.WrittenLaws.{some_values, some_parts, values_written, parts_written, texts_written, statements_written, sections_written}
 use Rattle.cs_print.proofs.+code.Goals as goal
 
 pub statements::push_statement_form-returns-in-If : goal.statements::push_statement_form-returns-in-If
@@ -23,3 +24,15 @@ lists::push_statements-returns t c = statements_written c.args.out.now c.loop-st
 
 pub lists::push_sections-returns : goal.lists::push_sections-returns
 lists::push_sections-returns t c = sections_written c.args.out.now c.loop-section.out c.args.sections.now c.loop-section.section-index c.loop-section-test.false c.loop-section.invariant
+
+pub lists::push_values-returns-in_ok-push_whole-in-len1-up : goal.lists::push_values-returns-in_ok-push_whole-in-len1-up
+lists::push_values-returns-in_ok-push_whole-in-len1-up t c =
+    on_ok_weaker c.push_more_values.result
+    (λ more. some_values c.args.out.now c.push_whole.new.out c.push_more_values.new.out c.first-item.result c.args.values.now c.in-len1-up.len_at_least c.first-item.is c.in_ok-push_whole-in-len1-up.ensures more)
+    c.push_more_values.ensures
+
+pub lists::push_parts-returns-in_ok-push_given-in-len1-up : goal.lists::push_parts-returns-in_ok-push_given-in-len1-up
+lists::push_parts-returns-in_ok-push_given-in-len1-up t c =
+    on_ok_weaker c.push_more_parts.result
+    (λ more. some_parts c.args.out.now c.push_given.new.out c.push_more_parts.new.out c.first-item.result c.args.parts.now c.in-len1-up.len_at_least c.first-item.is c.in_ok-push_given-in-len1-up.ensures more)
+    c.push_more_parts.ensures

@@ -1,4 +1,4 @@
-use Rattle.std.proofs.Common.{◌≡◌, ◌++◌, ap, ◌∙◌}
+use Rattle.std.proofs.Common.{◌++◌, ap, ◌∙◌}
 use Rattle.cs_token.proofs.WordLemmas.{ascii_spelling}
 use Rattle.cs_print.proofs.tokens.push_spelling.Goals as goal
 
