@@ -1,0 +1,7 @@
+use Rattle.std.proofs.Common.{◌≡◌, ◌++◌}
+use Rattle.cs_print.specs.Layout.{quoted_text}
+use Rattle.cs_print.proofs.tokens.push_all_quoted.Given as goal
+
+-- the characters so far are written
+abbrev pub invariant-loop-character : goal.invariant-loop-character
+invariant-loop-character l = l.out ≡ l.initial.out ++ quoted_text l.yielded

@@ -1,0 +1,5 @@
+pub mod Alike
+pub mod Printed
+pub mod PrintedMembers
+pub mod Layout
+pub mod Again
