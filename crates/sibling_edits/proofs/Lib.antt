@@ -1,0 +1,7 @@
+pub mod ReverseLemmas
+pub mod TurnLemmas
+pub mod HeldLemmas
+pub mod OnceLemmas
+pub mod MoveLemmas
+pub mod PlanLemmas
+pub mod TallyLemmas
