@@ -1,4 +1,5 @@
 pub mod ReverseLemmas
+pub mod NoneLemmas
 pub mod TurnLemmas
 pub mod HeldLemmas
 pub mod OnceLemmas

@@ -15,11 +15,11 @@ use Rattle.sibling_edits.specs.Plan.{removals_from, additions_from, entries_from
 
 of_type-append : (number : ℕ) (edits more : List Edit) → of_type number (edits ++ more) ≡ of_type number edits + of_type number more
 of_type-append number [] more = omega arith
-of_type-append number (edit ∷ edits) more = by_test (type_of edit == number)
+of_type-append number (edit ∷ edits) more = by_test (of_type-append number edits more) (type_of edit == number)
   where
-    by_test : (test : Bool) → length (cond test (edit ∷ filter (λ it. type_of it == number) (edits ++ more)) (filter (λ it. type_of it == number) (edits ++ more))) ≡ length (cond test (edit ∷ filter (λ it. type_of it == number) edits) (filter (λ it. type_of it == number) edits)) + of_type number more
-    by_test true = let rest = of_type-append number edits more in omega arith
-    by_test false = of_type-append number edits more
+    by_test : of_type number (edits ++ more) ≡ of_type number edits + of_type number more → (test : Bool) → length (cond test (edit ∷ filter (λ it. type_of it == number) (edits ++ more)) (filter (λ it. type_of it == number) (edits ++ more))) ≡ length (cond test (edit ∷ filter (λ it. type_of it == number) edits) (filter (λ it. type_of it == number) edits)) + of_type number more
+    by_test rest true = omega arith
+    by_test rest false = rest
 
 pub counts-append : (edits more : List Edit) → counts_in (edits ++ more) ≡ plus (counts_in edits) (counts_in more)
 counts-append edits more = rw (of_type-append 1 edits more, of_type-append 2 edits more, of_type-append 3 edits more, of_type-append 4 edits more, of_type-append 5 edits more, of_type-append 6 edits more, of_type-append 7 edits more, of_type-append 8 edits more, of_type-append 9 edits more, of_type-append 10 edits more) refl

@@ -38,7 +38,7 @@ between (Ok middle) next after is = (middle, refl, is)
 between (Err fault) next after is = absurd (cc)
 
 -- where the tree takes no component it is the same
-same_tree : (nodes : List BrowserNode) (above : List Level) (before after : Tree) → Ok {E = ApplyFault} before ≡ Ok after → Ok {E = ApplyFault} (focused nodes above before) ≡ Ok (focused nodes above after)
+same_tree : (nodes : List BrowserNode) (above : List Level) (before after : Tree) → ◌≡◌ {A = Result Tree ApplyFault} (Ok before) (Ok after) → ◌≡◌ {A = Result Focus ApplyFault} (Ok (focused nodes above before)) (Ok (focused nodes above after))
 same_tree nodes above before after is = ap (λ (r : Result Tree ApplyFault). and_then r (λ tree. Ok (focused nodes above tree))) is
 
 pub turns-none : (batch : ℕ) (nodes : List BrowserNode) → Turns batch [] nodes nodes

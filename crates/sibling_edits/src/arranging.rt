@@ -43,7 +43,7 @@ fn reversed(alloc: Global, nodes: Items<WireNode>) -> Result<Items<WireNode>, Al
 }
 
 /// The edits with those that put in what has no pair.
-#[tactic(auto, using(crate::proofs::ReverseLemmas::taken_last))]
+#[tactic(auto, using(crate::proofs::ReverseLemmas::last_first))]
 fn with_additions(
     alloc: Global,
     edits: Items<Edit>,
