@@ -1,5 +1,5 @@
 // Items as one rendering of an instance makes them, which no browser has seen yet.
-use crate::ItemAttribute;
+use crate::{ItemAttribute, Made};
 use cs_ast::Value;
 use sqlite_items::Items;
 use text_core::Txt;
@@ -27,7 +27,7 @@ pub enum Item {
     Component {
         number: u32,
         order: u32,
-        component: u32,
+        made: Made,
         key: Value,
         parameters: Items<ItemParameter>,
     },

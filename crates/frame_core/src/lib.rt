@@ -10,10 +10,12 @@ mod batch;
 mod edit;
 mod item;
 mod item_attribute;
+mod made;
 mod wire_node;
 
 pub use batch::{Batch, EditList};
 pub use edit::Edit;
 pub use item::{Item, ItemParameter};
 pub use item_attribute::{ItemAttribute, ItemHandler, ItemValue};
+pub use made::Made;
 pub use wire_node::{WireAttribute, WireNode, WireValue};
