@@ -1,24 +1,51 @@
 -- What the tests on labels and addresses decide.
-use Rattle.std.proofs.Common.{◌≡◌, ◌∙◌, refl, ap, sym, subst, ℕ, ◌==◌, ◌&&◌, Bool, true, false, List, [], ◌∷◌}
+use Rattle.std.proofs.Common.{◌≡◌, ◌∙◌, refl, ap, sym, subst, ℕ, ◌==◌, ◌&&◌, Bool, true, false, List, [], ◌∷◌, Option, Some, None}
 use Rattle.std.specs.Prelude.{◌↔◌, IsTrue}
 use Rattle.std.specs.Bool.{Decides, one_answer}
 use Rattle.std.proofs.lemmas.Bool.{eqb-true, eq-eqb}
 use Rattle.std.proofs.lemmas.Slice.Eq.{bytes_eq-Decides}
 use Rattle.cs_ast.specs.declared.value.Value.{Value}
+use Rattle.cs_ast.specs.declared.cs_type.CsType.{CsType}
 use Rattle.cs_meaning.specs.Equality.{is_same}
 use Rattle.cs_meaning.proofs.EqualityLemmas.{same_decides}
-use Rattle.pairing_meaning.specs.Labels.{Kind, element, text, markup, component, region, Label, same_kind, same_label}
+use Rattle.cs_rules.specs.Types.{same_type}
+use Rattle.cs_rules.proofs.SameType.{same_equal, same_self}
+use Rattle.frame_core.specs.declared.made.Made.{Made}
+use Rattle.frame_core.specs.declared.made.Made.TheVariants as made
+use Rattle.pairing_meaning.specs.Labels.{Kind, element, text, markup, component, region, Label, same_named, same_made, same_kind, same_label}
 use Rattle.pairing_meaning.specs.Slots.{Mark, Address, same_mark, same_marks, same_address}
 
 both : (x y : Bool) → (x && y) ≡ true → (x ≡ true) × (y ≡ true)
 both true y is = (refl, is)
 both false y is = absurd (cc)
 
+named_told : (one other : Option (List ℕ)) → same_named one other ≡ true → one ≡ other
+named_told None None is = refl
+named_told (Some name) (Some other) is = ap Some ((bytes_eq-Decides name other).0 is)
+named_told None (Some other) is = absurd (cc)
+named_told (Some name) None is = absurd (cc)
+
+named_self : (one : Option (List ℕ)) → same_named one one ≡ true
+named_self None = refl
+named_self (Some name) = (bytes_eq-Decides name name).1 refl
+
+made_told : (one other : Made) → same_made one other ≡ true → one ≡ other
+made_told (made.Component place) (made.Component other) is = ap made.Component (eqb-true place other is)
+made_told (made.Provider of name) (made.Provider other named) is =
+    let parts = both (same_type of other) (same_named name named) is in
+    ap (λ (t : CsType). made.Provider t name) (same_equal of other parts.0) ∙ ap (made.Provider other) (named_told name named parts.1)
+made_told (made.Component place) (made.Provider other named) is = absurd (cc)
+made_told (made.Provider of name) (made.Component other) is = absurd (cc)
+
+made_self : (one : Made) → same_made one one ≡ true
+made_self (made.Component place) = eq-eqb place place refl
+made_self (made.Provider of name) = rw (same_self of, named_self name) refl
+
 kind_told : (one other : Kind) → same_kind one other ≡ true → one ≡ other
 kind_told (element name) (element other) is = ap element ((bytes_eq-Decides name other).0 is)
 kind_told text text is = refl
 kind_told markup markup is = refl
-kind_told (component of) (component other) is = ap component (eqb-true of other is)
+kind_told (component what) (component other) is = ap component (made_told what other is)
 kind_told region region is = refl
 kind_told _ _ is = absurd (cc)
 
@@ -26,7 +53,7 @@ kind_self : (one : Kind) → same_kind one one ≡ true
 kind_self (element name) = (bytes_eq-Decides name name).1 refl
 kind_self text = refl
 kind_self markup = refl
-kind_self (component of) = eq-eqb of of refl
+kind_self (component what) = made_self what
 kind_self region = refl
 
 abbrev labelled : ℕ → Kind → Value → Label

@@ -29,8 +29,8 @@ layer-same (Element number name key attributes children) =
     ∙ ap (λ (xs : List Item). item.Element number name key attributes xs) (all-same children) ∙ sym (item.rolls-Element number name key attributes (plain children))
 layer-same (Text number text) = ap (λ (l : Laid). l.item) (fold-roll-Item Laid laid_layer (Text number text)) ∙ sym (item.rolls-Text number text)
 layer-same (Markup number text) = ap (λ (l : Laid). l.item) (fold-roll-Item Laid laid_layer (Markup number text)) ∙ sym (item.rolls-Markup number text)
-layer-same (Component number order component key parameters) =
-    ap (λ (l : Laid). l.item) (fold-roll-Item Laid laid_layer (Component number order component key parameters)) ∙ sym (item.rolls-Component number order component key parameters)
+layer-same (Component number order made key parameters) =
+    ap (λ (l : Laid). l.item) (fold-roll-Item Laid laid_layer (Component number order made key parameters)) ∙ sym (item.rolls-Component number order made key parameters)
 layer-same (Region number key children) =
     ap (λ (l : Laid). l.item) (fold-roll-Item Laid laid_layer (Region number key (plain children)))
     ∙ ap (λ (xs : List Item). item.Region number key xs) (all-same children) ∙ sym (item.rolls-Region number key (plain children))
@@ -45,7 +45,7 @@ label-layer : (x : Item-F Item) → label_by (map-Item Item Laid laid_of x) ≡ 
 label-layer (Element number name key attributes children) = refl
 label-layer (Text number text) = refl
 label-layer (Markup number text) = refl
-label-layer (Component number order component key parameters) = refl
+label-layer (Component number order made key parameters) = refl
 label-layer (Region number key children) = refl
 
 laid-label : (it : Item) → (laid_of it).label ≡ label_of it
@@ -87,14 +87,14 @@ leaf-slots marks it before other =
     by_layer (Element number name key attributes children) e = at-layer it before (Element number name key attributes children) e
     by_layer (Text number text) e = at-layer it before (Text number text) e
     by_layer (Markup number text) e = at-layer it before (Markup number text) e
-    by_layer (Component number order component key parameters) e = at-layer it before (Component number order component key parameters) e
+    by_layer (Component number order made key parameters) e = at-layer it before (Component number order made key parameters) e
     by_layer (Region number key children) e = absurd (other number key children (sym (roll-out-Item it) ∙ ap roll-Item e ∙ item.rolls-Region number key children))
 
 map-join : {X Y : Type 0} (f : X → Y) (xs ys : List X) → map f (xs ++ ys) ≡ map f xs ++ map f ys
 map-join f [] ys = refl
 map-join f (x ∷ xs) ys = ap (λ zs. f x ∷ zs) (map-join f xs ys)
 
-drop-read : {X : Type 0} (xs : List X) (k : ℕ) (x : X) → k < length xs → x ≡ get_or xs k x → drop k xs ≡ x ∷ drop (k + 1) xs
+pub drop-read : {X : Type 0} (xs : List X) (k : ℕ) (x : X) → k < length xs → x ≡ get_or xs k x → drop k xs ≡ x ∷ drop (k + 1) xs
 drop-read [] k x h e = absurd (omega arith)
 drop-read (y ∷ xs) zero x h e = ap (λ z. z ∷ xs) (sym e)
 drop-read (y ∷ xs) (suc k) x h e = drop-read xs k x (omega arith) e ∙ ap (λ n. x ∷ drop n (y ∷ xs)) (let s : suc (k + 1) ≡ suc k + 1 = omega arith in s)

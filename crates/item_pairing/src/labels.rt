@@ -2,6 +2,7 @@
 ghost use Rattle.std.specs.Prelude.{◌≡◌, ◌↔◌, IsTrue, map};
 ghost use Rattle.pairing_meaning.specs.Labels.{label_of, like, same_label};
 
+use crate::made::same_made;
 use cs_ast::same;
 use frame_core::Item;
 
@@ -18,7 +19,6 @@ fn number(item: &Item) -> u32
 }
 
 /// Whether two items have the same number, kind and key.
-#[tactic(auto, using(crate::proofs::LabelLemmas::decided))]
 pub(crate) fn alike(one: &Item, other: &Item) -> bool
     ensures { IsTrue result ↔ (label_of one.now ≡ label_of other.now) }
 {
@@ -37,13 +37,13 @@ pub(crate) fn alike(one: &Item, other: &Item) -> bool
         (Item::Text { .. }, Item::Text { .. }) => true,
         (Item::Markup { .. }, Item::Markup { .. }) => true,
         (
-            Item::Component { component, key, .. },
+            Item::Component { made, key, .. },
             Item::Component {
-                component: other_component,
+                made: other_made,
                 key: other_key,
                 ..
             },
-        ) => component == other_component && same(key, other_key),
+        ) => same_made(made, other_made) && same(key, other_key),
         (Item::Region { key, .. }, Item::Region { key: other_key, .. }) => same(key, other_key),
         _ => false,
     }

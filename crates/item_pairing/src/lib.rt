@@ -6,6 +6,7 @@
 #![tactic(auto)]
 
 mod labels;
+mod made;
 mod pairing;
 mod slots;
 

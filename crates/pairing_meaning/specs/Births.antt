@@ -4,6 +4,7 @@ use Rattle.cs_ast.specs.declared.value.Value.{Value}
 use Rattle.frame_core.specs.declared.item.Item.{Item}
 use Rattle.frame_core.specs.declared.item.Item.TheVariants as item
 use Rattle.frame_core.specs.declared.item.ItemParameter.{ItemParameter}
+use Rattle.frame_core.specs.declared.made.Made.{Made}
 use Rattle.frame_core.specs.declared.item_attribute.ItemAttribute.{ItemAttribute}
 use Rattle.frame_core.specs.declared.wire_node.WireNode.{WireNode}
 use Rattle.edit_meaning.specs.declared.browser_node.BrowserNode.{BrowserNode}
@@ -20,7 +21,7 @@ mutual
         → ShowEach (slots_of children) nodes → Shows (item.Element number name key attributes children) (node.Element born name (names_of attributes) nodes)
     shows_text : (number : ℕ) (text : List ℕ) (born : ℕ) → Shows (item.Text number text) (node.Text born text)
     shows_markup : (number : ℕ) (text : List ℕ) (born : ℕ) → Shows (item.Markup number text) (node.Markup born text)
-    shows_component : (number order component : ℕ) (key : Value) (parameters : List ItemParameter) (shown : ℕ) → Shows (item.Component number order component key parameters) (node.Component shown)
+    shows_component : (number order : ℕ) (what : Made) (key : Value) (parameters : List ItemParameter) (shown : ℕ) → Shows (item.Component number order what key parameters) (node.Component shown)
 
   -- a node for each slot
   pub data ShowEach : List Slot → List BrowserNode → Type 0 where
@@ -39,8 +40,8 @@ mutual
         → Becomes batch (item.Element m name key was olds) (item.Element n name other attributes news) (node.Element born name (names_of was) before) (node.Element born name (names_of attributes) after)
     becomes_text : (batch m n : ℕ) (old new : List ℕ) (born : ℕ) → Becomes batch (item.Text m old) (item.Text n new) (node.Text born old) (node.Text born new)
     becomes_markup : (batch m n : ℕ) (old new : List ℕ) (born : ℕ) → Becomes batch (item.Markup m old) (item.Markup n new) (node.Markup born old) (node.Markup born new)
-    becomes_component : (batch m n first second component other : ℕ) (key later : Value) (old new : List ItemParameter) (shown : ℕ)
-        → Becomes batch (item.Component m first component key old) (item.Component n second other later new) (node.Component shown) (node.Component shown)
+    becomes_component : (batch m n first second : ℕ) (what other : Made) (key later : Value) (old new : List ItemParameter) (shown : ℕ)
+        → Becomes batch (item.Component m first what key old) (item.Component n second other later new) (node.Component shown) (node.Component shown)
 
   -- each new slot has what became of the node of its pair, or the node that the batch makes of what it says
   pub data Places : ℕ → List (Option ℕ) → List Slot → List Slot → List WireNode → List BrowserNode → List BrowserNode → Type 0 where

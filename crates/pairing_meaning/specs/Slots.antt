@@ -53,7 +53,7 @@ abbrev pub item_by : Item-F Laid → Item
 item_by (Element number name key attributes children) = item.Element number name key attributes (items_of children)
 item_by (Text number text) = item.Text number text
 item_by (Markup number text) = item.Markup number text
-item_by (Component number order component key parameters) = item.Component number order component key parameters
+item_by (Component number order made key parameters) = item.Component number order made key parameters
 item_by (Region number key children) = item.Region number key (items_of children)
 
 -- a region has the slots of its items, and each other item is one slot

@@ -7,6 +7,7 @@ use Rattle.page_core.specs.declared.counts.Counts.{Counts}
 use Rattle.frame_core.specs.declared.item.Item.{Item}
 use Rattle.frame_core.specs.declared.item.Item.TheVariants as item
 use Rattle.frame_core.specs.declared.item.ItemParameter.{ItemParameter}
+use Rattle.frame_core.specs.declared.made.Made.{Made}
 use Rattle.frame_core.specs.declared.item_attribute.ItemAttribute.{ItemAttribute}
 use Rattle.frame_core.specs.declared.item_attribute.ItemValue.{ItemValue}
 use Rattle.frame_core.specs.declared.item_attribute.ItemValue.TheVariants as held
@@ -73,7 +74,7 @@ mutual
         → Changed (item.Element m name key was olds) (item.Element n name other attributes news) (plus (name_edits was attributes) (stepped inner))
     changed_text : (m n : ℕ) (old new : List ℕ) → Changed (item.Text m old) (item.Text n new) (record no_edits { text = text_edits old new })
     changed_markup : (m n : ℕ) (old new : List ℕ) → Changed (item.Markup m old) (item.Markup n new) (record no_edits { markup = text_edits old new })
-    changed_component : (m n first second component other : ℕ) (key later : Value) (old new : List ItemParameter) → Changed (item.Component m first component key old) (item.Component n second other later new) no_edits
+    changed_component : (m n first second : ℕ) (what other : Made) (key later : Value) (old new : List ItemParameter) → Changed (item.Component m first what key old) (item.Component n second other later new) no_edits
 
   -- the sum over the pairs of a list
   pub data Sums : List (Option ℕ) → List Slot → List Slot → Counts → Type 0 where

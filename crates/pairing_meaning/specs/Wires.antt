@@ -34,7 +34,7 @@ abbrev pub wires_layer : Item-F (List WireNode) → List WireNode
 wires_layer (Element number name key attributes children) = wire.Element name (wire_attributes attributes) (flat_map (λ child. child) children) ∷ []
 wires_layer (Text number text) = wire.Text text ∷ []
 wires_layer (Markup number text) = wire.Markup text ∷ []
-wires_layer (Component number order component key parameters) = wire.Component order ∷ []
+wires_layer (Component number order made key parameters) = wire.Component order ∷ []
 wires_layer (Region number key children) = flat_map (λ child. child) children
 
 abbrev pub wires_in : Item → List WireNode
