@@ -1,4 +1,0 @@
-pub mod LabelLemmas
-pub mod FoundLemmas
-pub mod SlotLemmas
-pub mod CountLemmas
