@@ -18,14 +18,13 @@ use Rattle.cs_rules.specs.Types.{fitting}
 use Rattle.cs_rules.specs.Written.{written}
 use Rattle.razor_rules.specs.Findings.{Broken, found, found_then, broken_unless}
 use Rattle.razor_rules.specs.Members.{name_of, is_record, result_type}
-use Rattle.razor_rules.specs.Names.{repeated}
+use Rattle.razor_rules.specs.Names.{is_among, repeated}
 use Rattle.cs_forbidden.specs.declared.forbidden.Forbidden.{Forbidden}
 use Rattle.cs_forbidden.specs.Roots.{nothing}
 use Rattle.cs_forbidden.specs.Trees.{value_in}
 use Rattle.razor_rules.specs.Restrictions.{in_lifecycle}
 use Rattle.razor_rules.specs.Scopes.{Home, initial_scope, member_scope, with_arguments, with_result}
 use Rattle.razor_rules.specs.WrittenTypes.{argument_type, parameter_type}
-use Rattle.razor_rules.specs.Records.{contains_itself}
 use Rattle.razor_rules.specs.Bodies.{judged_body, reaches_end}
 
 -- the methods that the system calls
@@ -40,7 +39,8 @@ abbrev pub is_empty : List Argument → Bool
 is_empty [] = true
 is_empty (one ∷ others) = false
 
-module _ (home : Home) (effects : List (ℕ × Effect)) where
+-- the effects of methods by their numbers and the names of the records that contain themselves are handed in
+module _ (home : Home) (effects : List (ℕ × Effect)) (circular : List (List ℕ)) where
   -- the initial value of a field or a parameter of a type
   abbrev pub initial_rules : Option Expr → CsType → List Broken
   initial_rules None cs_type = []
@@ -70,7 +70,7 @@ module _ (home : Home) (effects : List (ℕ × Effect)) where
 
   unfoldable pub record_rules : Ident → List Argument → List Broken
   record_rules name parts =
-      broken_unless (not (contains_itself home.records name.name)) RecursiveRecord name.place
+      broken_unless (not (is_among name.name circular)) RecursiveRecord name.place
       ++ flat_map (λ one. found (written home.records one.cs_type)) parts
       ++ repeated DuplicateName [] (map (λ one. one.name) parts)
 

@@ -1,5 +1,5 @@
 -- Records that contain themselves.
-use Rattle.std.specs.Prelude.{ℕ, zero, suc, ◌||◌, Bool, false, List, [], length, Option, Some, None, bytes_eq}
+use Rattle.std.specs.Prelude.{◌≡◌, ◌↔◌, IsTrue, ℕ, Bool, true, false, List, [], Option, Some, None, bytes_eq}
 use Rattle.std.specs.List.{list_any}
 use Rattle.cs_ast.specs.declared.cs_type.CsType.{CsType}
 use Rattle.cs_ast.specs.declared.cs_type.CsType.TheOpen.{CsType-F}
@@ -7,6 +7,7 @@ use Rattle.cs_ast.specs.declared.cs_type.CsType.TheFolds.{fold-CsType}
 use Rattle.cs_ast.specs.declared.member.Argument.{Argument}
 use Rattle.cs_ast.specs.declared.member.Member.{Member}
 use Rattle.cs_rules.specs.Written.{type_of, Declared, record_named}
+use Rattle.razor_rules.specs.Names.{is_among}
 
 -- the record that values of a type hold, if they hold one: the record that it is, or that of the items of a list
 abbrev pub held_level : CsType-F (Option (List ℕ)) → Option (List ℕ)
@@ -21,17 +22,19 @@ abbrev pub parts_declared : Option Declared → List Argument
 parts_declared None = []
 parts_declared (Some found) = found.parts
 
-abbrev pub if_held : (List ℕ → Bool) → Option (List ℕ) → Bool
-if_held test None = false
-if_held test (Some name) = test name
+abbrev pub is_named : List ℕ → Option (List ℕ) → Bool
+is_named name None = false
+is_named name (Some held) = bytes_eq held name
 
--- whether a record has another among its parts, their parts and so on, at most so many levels down
-abbrev pub holds_within : ℕ → List Member → List ℕ → List ℕ → Bool
-holds_within zero records other name = false
-holds_within (suc depth) records other name =
-    list_any (λ part. if_held (λ held. bytes_eq held other || holds_within depth records other held) (held_record (type_of part.cs_type)))
-    (parts_declared (record_named records name))
+-- whether the record of a name has a part that holds another
+unfoldable pub has_part : List Member → List ℕ → List ℕ → Bool
+has_part records other name = list_any (λ part. is_named other (held_record (type_of part.cs_type))) (parts_declared (record_named records name))
 
--- whether a record contains itself: there are no more levels than records without one that stands twice
-unfoldable pub contains_itself : List Member → List ℕ → Bool
-contains_itself records name = holds_within (length records) records name name
+-- a record contains another where it has a part that holds it, or one that holds a record which contains it
+pub data Holds (records : List Member) (other : List ℕ) : List ℕ → Type 0 where
+  itself : (name : List ℕ) → has_part records other name ≡ true → Holds records other name
+  through : (name part : List ℕ) → has_part records part name ≡ true → Holds records other part → Holds records other name
+
+-- these are the names of the records that contain themselves
+pub record AreCircular (records : List Member) (names : List (List ℕ)) : Type 0 where
+  pub exact : (name : List ℕ) → IsTrue (is_among name names) ↔ Holds records name name
