@@ -1,2 +1,3 @@
 mod TemplateLaws
+mod FirstLaws
 mod Examples
