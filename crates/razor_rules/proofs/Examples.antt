@@ -45,7 +45,7 @@ named column text = record { place = at column; kind = roll-ExprKind (ExprKind-F
 
 -- methods have these effects, and no record contains itself
 abbrev facts_of : List (List Effect) → Facts
-facts_of effects = record { effects = effects; circular = [] }
+facts_of effects = record { effects = effects; circular = λ name. false }
 
 -- `<p>@m</p>`
 abbrev unknown : Component

@@ -18,7 +18,7 @@ use Rattle.cs_rules.specs.Types.{fitting}
 use Rattle.cs_rules.specs.Written.{written}
 use Rattle.razor_rules.specs.Findings.{Broken, found, found_then, broken_unless}
 use Rattle.razor_rules.specs.Members.{name_of, is_record, result_type}
-use Rattle.razor_rules.specs.Names.{is_among, repeated}
+use Rattle.razor_rules.specs.Names.{repeated}
 use Rattle.cs_forbidden.specs.declared.forbidden.Forbidden.{Forbidden}
 use Rattle.cs_forbidden.specs.Roots.{nothing}
 use Rattle.cs_forbidden.specs.Trees.{value_in}
@@ -39,8 +39,8 @@ abbrev pub is_empty : List Argument → Bool
 is_empty [] = true
 is_empty (one ∷ others) = false
 
--- the effects of methods by their numbers and the names of the records that contain themselves are handed in
-module _ (home : Home) (effects : List (ℕ × Effect)) (circular : List (List ℕ)) where
+-- the effects of methods by their numbers, and whether the record of a name contains itself, are handed in
+module _ (home : Home) (effects : List (ℕ × Effect)) (circular : List ℕ → Bool) where
   -- the initial value of a field or a parameter of a type
   abbrev pub initial_rules : Option Expr → CsType → List Broken
   initial_rules None cs_type = []
@@ -70,7 +70,7 @@ module _ (home : Home) (effects : List (ℕ × Effect)) (circular : List (List �
 
   unfoldable pub record_rules : Ident → List Argument → List Broken
   record_rules name parts =
-      broken_unless (not (is_among name.name circular)) RecursiveRecord name.place
+      broken_unless (not (circular name.name)) RecursiveRecord name.place
       ++ flat_map (λ one. found (written home.records one.cs_type)) parts
       ++ repeated DuplicateName [] (map (λ one. one.name) parts)
 

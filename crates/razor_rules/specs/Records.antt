@@ -7,7 +7,6 @@ use Rattle.cs_ast.specs.declared.cs_type.CsType.TheFolds.{fold-CsType}
 use Rattle.cs_ast.specs.declared.member.Argument.{Argument}
 use Rattle.cs_ast.specs.declared.member.Member.{Member}
 use Rattle.cs_rules.specs.Written.{type_of, Declared, record_named}
-use Rattle.razor_rules.specs.Names.{is_among}
 
 -- the record that values of a type hold, if they hold one: the record that it is, or that of the items of a list
 abbrev pub held_level : CsType-F (Option (List ℕ)) → Option (List ℕ)
@@ -35,6 +34,6 @@ pub data Holds (records : List Member) (other : List ℕ) : List ℕ → Type 0 
   itself : (name : List ℕ) → has_part records other name ≡ true → Holds records other name
   through : (name part : List ℕ) → has_part records part name ≡ true → Holds records other part → Holds records other name
 
--- these are the names of the records that contain themselves
-pub record AreCircular (records : List Member) (names : List (List ℕ)) : Type 0 where
-  pub exact : (name : List ℕ) → IsTrue (is_among name names) ↔ Holds records name name
+-- it is told of each name whether the record of that name contains itself
+abbrev pub IsCircular : List Member → (List ℕ → Bool) → Type 0
+IsCircular records circular = (name : List ℕ) → IsTrue (circular name) ↔ Holds records name name
