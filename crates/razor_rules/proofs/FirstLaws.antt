@@ -1,5 +1,5 @@
 -- The first of several broken rules.
-use Rattle.std.proofs.Common.{◌≡◌, ℕ, ◌<◌, ◌⊎◌, ◌==◌, ◌&&◌, ◌||◌, nat_lt, Bool, true, false, List, [], ◌∷◌, Option, Some, None, if◌then◌else◌, refl, sym, subst, ◌∙◌, arith}
+use Rattle.std.proofs.Common.{ap, ◌≡◌, ℕ, ◌<◌, ◌⊎◌, ◌==◌, ◌&&◌, ◌||◌, nat_lt, Bool, true, false, ◌++◌, List, [], ◌∷◌, Option, Some, None, if◌then◌else◌, refl, sym, subst, ◌∙◌, arith}
 use mathlib.Core.Logic.{inl, inr}
 use Rattle.std.proofs.lemmas.Bool.{ltb-true, eqb-true, lt-ltb, eq-eqb, or_cases, and_parts, and_from, cases_Bool, cases_order, both_ways}
 use Rattle.std.specs.List.{All}
@@ -148,3 +148,30 @@ in_front x xs (Some y) it = chosen (cases_Bool (comes_before y x))
 pub is_first : (xs : List Broken) → IsFirst xs (first_of xs)
 is_first [] = refl
 is_first (x ∷ xs) = in_front x xs (first_of xs) (is_first xs)
+
+-- the first of either
+abbrev pub merged : Option Broken → Option Broken → Option Broken
+merged None other = other
+merged (Some x) other = Some (the_first x other)
+
+three : (x y z : Broken) → the_first x (Some (the_first y (Some z))) ≡ the_first (the_first x (Some y)) (Some z)
+three x y z = elim (cases_Bool (comes_before y x)) [
+  | inl a ↦ elim (cases_Bool (comes_before z y)) [
+    | inl b ↦ rw (a, b, before_is z x (and_on z y x (is_before z y b) (is_before y x a))) refl
+    | inr b ↦ rw (a, b, a) refl
+  ]
+  | inr a ↦ elim (cases_Bool (comes_before z y)) [
+    | inl b ↦ rw (a, b) refl
+    | inr b ↦ rw (a, b, is_not_before z x (not_on z y x (not_before z y b) (not_before y x a)), a) refl
+  ]
+]
+
+in_turn : (x : Broken) (one other : Option Broken) → the_first x (merged one other) ≡ the_first (the_first x one) other
+in_turn x None other = refl
+in_turn x (Some y) None = refl
+in_turn x (Some y) (Some z) = three x y z
+
+-- the first of two lists one behind the other
+pub first_append : (xs ys : List Broken) → first_of (xs ++ ys) ≡ merged (first_of xs) (first_of ys)
+first_append [] ys = refl
+first_append (x ∷ xs) ys = ap (λ o. Some (the_first x o)) (first_append xs ys) ∙ ap Some (in_turn x (first_of xs) (first_of ys))
