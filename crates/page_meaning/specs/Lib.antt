@@ -9,5 +9,6 @@ pub mod Tags
 pub mod Placed
 pub mod Parts
 pub mod Items
+pub mod ProgramTypes
 pub mod Initial
 pub mod Fresh

@@ -34,7 +34,10 @@ use Rattle.frame_core.specs.declared.item.ItemParameter.{ItemParameter}
 use Rattle.page_meaning.specs.Captures.{used, with_captured}
 use Rattle.page_meaning.specs.Drawing.{Draws, stuck, done, pay, ◌>>=◌}
 use Rattle.page_meaning.specs.Stages.{Stage, Output, output, joined, if_fine}
-use Rattle.page_meaning.specs.Placed.{Placed, template, element_placed, attributes_placed}
+use Rattle.cs_ast.specs.declared.cs_type.CsType.TheVariants as t
+use Rattle.cs_typing.specs.Types.{Signature}
+use Rattle.cs_typing.specs.Values.{awaited}
+use Rattle.page_meaning.specs.Placed.{Placed, signature, types_of, template, element_placed, attributes_placed}
 use Rattle.page_meaning.specs.Nodes as node
 use Rattle.page_meaning.specs.Nodes.{Makes, ended}
 use Rattle.page_meaning.specs.Tags as tags
@@ -131,10 +134,14 @@ with_context (Some cs_type) name s = with_local s name.name cs_type
 abbrev pub fragment_scope : Home → Scope → Content → Option CsType → Ident → Scope
 fragment_scope home s content argument name = with_context argument name (with_captured (used content.does s) (member_scope home))
 
+-- the types of the locals of a fragment: those that it uses, and its argument
+abbrev pub fragment_signature : Home → Scope → Content → Option CsType → Signature
+fragment_signature home s content argument = signature home (types_of (used content.does s) ++ awaited argument) t.Nothing
+
 -- a fragment at a number of the content: its own template, and those in it
 abbrev pub fragment_placed : Home → Scope → ℕ → Content → Option CsType → Ident → List (ℕ × Placed)
 fragment_placed home s number content argument name =
-    (number_at home.first home.members number, template (record { home = home; makes = λ stage. content.makes stage (fragment_scope home s content argument name) }))
+    (number_at home.first home.members number, template (fragment_signature home s content argument) (record { home = home; makes = λ stage. content.makes stage (fragment_scope home s content argument name) }))
     ∷ content.placed home (fragment_scope home s content argument name)
 
 -- the content of a component's tag: the tags of fragments, or all of it for `ChildContent`

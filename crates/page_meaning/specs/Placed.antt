@@ -1,5 +1,5 @@
 -- The bodies and the templates of a program by their numbers.
-use Rattle.std.specs.Prelude.{ℕ, ◌+◌, ◌==◌, List, [], ◌∷◌, ◌++◌, if◌then◌else◌, Option, Some, None, bytes_eq}
+use Rattle.std.specs.Prelude.{ℕ, ◌+◌, ◌==◌, map, List, [], ◌∷◌, ◌++◌, if◌then◌else◌, Option, Some, None, bytes_eq}
 use Rattle.std.specs.List.{flat_map, filter_map}
 use Rattle.cs_ast.specs.declared.code.BindKind.{BindKind}
 use Rattle.cs_ast.specs.declared.code.BindKind.TheVariants as bind
@@ -19,7 +19,11 @@ use Rattle.cs_ast.specs.declared.member.Member.{Member}
 use Rattle.cs_ast.specs.declared.member.MemberKind.{MemberKind}
 use Rattle.cs_ast.specs.declared.member.MemberKind.TheVariants.{Method, Getter}
 use Rattle.cs_ast.specs.declared.scope.Scope.{Scope}
+use Rattle.cs_ast.specs.declared.scope.Named.{Named}
 use Rattle.cs_rules.specs.Judged.{Judged, fine, breaks, ◌>>=◌}
+use Rattle.cs_rules.specs.Written.{type_of}
+use Rattle.cs_typing.specs.Types.{Signature}
+use Rattle.cs_typing.specs.Expressions.{arguments_or_one}
 use Rattle.razor_ast.specs.declared.attribute.Attribute.{Attribute}
 use Rattle.razor_ast.specs.declared.attribute.AttributeKind.{AttributeKind}
 use Rattle.razor_ast.specs.declared.attribute.AttributeKind.TheVariants as ak
@@ -45,23 +49,30 @@ pub record Template : Type 0 where
   pub home : Home
   pub makes : Stage → Draws (List Item)
 
--- what has a number
+-- what has a number: a body, with the types of the locals that it begins with and of its result; or a template, with those of its locals
 pub data Placed : Type 0 where
-  body : Code → Placed
-  template : Template → Placed
+  body : Signature → Code → Placed
+  template : Signature → Template → Placed
 
-abbrev pub body_if_fine : ℕ → Judged Code → List (ℕ × Placed)
-body_if_fine number (fine code) = (number, body code) ∷ []
-body_if_fine number (breaks rule place) = []
+abbrev pub signature : Home → List CsType → CsType → Signature
+signature home locals result = record { component = home.position; locals = locals; result = result }
+
+abbrev pub body_if_fine : ℕ → Signature → Judged Code → List (ℕ × Placed)
+body_if_fine number s (fine code) = (number, body s code) ∷ []
+body_if_fine number s (breaks rule place) = []
 
 -- the code of a method
 abbrev pub method_code : Home → Option TypeExpr → List Argument → Body → Judged Code
 method_code home result arguments of = judged_body nothing (with_arguments arguments (with_result (result_type result) (member_scope home))) of
 
+-- the types that a method takes and gives
+abbrev pub method_signature : Home → Option TypeExpr → List Argument → Signature
+method_signature home result arguments = signature home (arguments_or_one (map (λ one. type_of one.cs_type) arguments)) (result_type result)
+
 -- the body of a member, if it has one, under a number
 abbrev pub member_placed : Home → ℕ → MemberKind → List (ℕ × Placed)
-member_placed home number (Method result name arguments of) = body_if_fine number (method_code home result arguments of)
-member_placed home number (Getter result name value) = body_if_fine number (method_code home (Some result) [] (body_form.Value value))
+member_placed home number (Method result name arguments of) = body_if_fine number (method_signature home result arguments) (method_code home result arguments of)
+member_placed home number (Getter result name value) = body_if_fine number (method_signature home (Some result) []) (method_code home (Some result) [] (body_form.Value value))
 member_placed home number _ = []
 
 -- the bodies of members, one number after another
@@ -70,7 +81,7 @@ members_placed home number [] = []
 members_placed home number (one ∷ others) = member_placed home number one.kind ++ members_placed home (number + 1) others
 
 abbrev pub method_or : Home → ℕ → List ℕ → MemberKind → List (ℕ × Placed) → List (ℕ × Placed)
-method_or home number name (Method result other arguments of) further = if bytes_eq other.name name then body_if_fine number (method_code home result arguments of) else further
+method_or home number name (Method result other arguments of) further = if bytes_eq other.name name then body_if_fine number (method_signature home result arguments) (method_code home result arguments of) else further
 method_or home number name _ further = further
 
 -- the body of the method of a name, under another number
@@ -78,13 +89,25 @@ abbrev pub method_placed : Home → ℕ → List ℕ → List Member → List (�
 method_placed home number name [] = []
 method_placed home number name (one ∷ others) = method_or home number name one.kind (method_placed home number name others)
 
+-- the types of these locals
+abbrev pub types_of : List Named → List CsType
+types_of locals = map (λ one. one.cs_type) locals
+
+-- the type of the last local of a lambda: that of its argument, or of one that no name stands for
+abbrev pub last_type : Option Ident → Option CsType → CsType
+last_type (Some name) (Some argument) = argument
+last_type _ _ = t.Nothing
+
+abbrev pub lambda_signature : Home → Scope → Expr → Option Ident → Option CsType → Signature
+lambda_signature home s a name argument = signature home (types_of (used (λ deed. expression_does deed a) s) ++ last_type name argument ∷ []) t.Nothing
+
 -- the code of a lambda that stands in a scope: over the locals that it uses, and its argument
 abbrev pub lambda_code : Home → Scope → Expr → Option Ident → Body → Option CsType → Judged Code
 lambda_code home s a name of argument =
     lambda_scope (with_captured (used (λ deed. expression_does deed a) s) (member_scope home)) a.place name argument >>= λ inner. judged_body nothing inner of
 
 abbrev pub callback_placed_level : Home → Scope → ℕ → Option CsType → Expr → Level → List (ℕ × Placed)
-callback_placed_level home s number argument a (ExprKind-F.Lambda name of) = body_if_fine number (lambda_code home s a name of argument)
+callback_placed_level home s number argument a (ExprKind-F.Lambda name of) = body_if_fine number (lambda_signature home s a name argument) (lambda_code home s a name of argument)
 callback_placed_level home s number argument a (ExprKind-F.Name name) = method_placed home number name home.members
 callback_placed_level home s number argument a _ = []
 
@@ -98,14 +121,14 @@ bind_kind t.Int = bind.Int
 bind_kind t.Bool = bind.Bool
 bind_kind _ = bind.Text
 
-abbrev pub bound_placed : ℕ → Option (ℕ × CsType) → List (ℕ × Placed)
-bound_placed number None = []
-bound_placed number (Some field) = (number, body (c.Bind field.0 (bind_kind field.1))) ∷ []
+abbrev pub bound_placed : Home → ℕ → Option (ℕ × CsType) → List (ℕ × Placed)
+bound_placed home number None = []
+bound_placed home number (Some field) = (number, body (signature home (t.Change ∷ []) t.Nothing) (c.Bind field.0 (bind_kind field.1))) ∷ []
 
 -- the body of a handler
 abbrev pub handler_placed : Home → Scope → AttributeKind → List ℕ → List (ℕ × Placed)
 handler_placed home s (ak.Event number a) name = callback_placed home s number (Some (event_type name)) a
-handler_placed home s (ak.Bind number field) name = bound_placed (number_at home.first home.members (number + 1)) (own_field home.members field.name)
+handler_placed home s (ak.Bind number field) name = bound_placed home (number_at home.first home.members (number + 1)) (own_field home.members field.name)
 handler_placed home s _ name = []
 
 -- the bodies of the handlers of an element
@@ -130,12 +153,12 @@ attributes_placed (Some (tags.component takes)) attributes home s = flat_map (λ
 attributes_placed _ attributes home s = []
 
 abbrev pub body_in : Placed → Option Code
-body_in (body code) = Some code
-body_in (template it) = None
+body_in (body s code) = Some code
+body_in (template s it) = None
 
 abbrev pub template_in : Placed → Option Template
-template_in (body code) = None
-template_in (template it) = Some it
+template_in (body s code) = None
+template_in (template s it) = Some it
 
 abbrev pub with_number : {A : Type 0} → ℕ → Option A → Option (ℕ × A)
 with_number number None = None

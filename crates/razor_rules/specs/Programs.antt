@@ -30,6 +30,7 @@ home_of components position component =
     record {
       records = records_of components;
       components = components;
+      position = position;
       first = first_number components position;
       members = component.members;
     }

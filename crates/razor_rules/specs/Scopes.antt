@@ -16,10 +16,11 @@ use Rattle.razor_rules.specs.Members.{is_record, names_of, numbered_effects}
 abbrev pub records_of : List Component → List Member
 records_of components = flat_map (λ component. filter (λ one. is_record one.kind) component.members) components
 
--- where the code of a component stands: the records and the components of its program, the number of its first body, and its members
+-- where the code of a component stands: the records and the components of its program, its position among these, the number of its first body, and its members
 pub record Home : Type 0 where
   pub records : List Member
   pub components : List Component
+  pub position : ℕ
   pub first : ℕ
   pub members : List Member
 
