@@ -43,8 +43,13 @@ same_parts read d0 d1 m0 m1 n0 n1 a b =
     sym a.members_is ∙ ap (λ (x : Parts). x.members) same ∙ b.members_is,
     sym a.nodes_is ∙ ap (λ (x : Parts). x.nodes) same ∙ b.nodes_is)
 
+abbrev make : List ℕ → Bool → List Member → List TNode → Component
+make name disposes members nodes = record { name = name; disposes = disposes; members = members; nodes = nodes }
+
 same_component : (a b : Component) → a.name ≡ b.name → a.disposes ≡ b.disposes → a.members ≡ b.members → a.nodes ≡ b.nodes → a ≡ b
-same_component a b e f g h = cc
+same_component a b e f g h =
+    ap (λ (x : List ℕ). make x a.disposes a.members a.nodes) e ∙ ap (λ (x : Bool). make b.name x a.members a.nodes) f
+    ∙ ap (λ (x : List Member). make b.name b.disposes x a.nodes) g ∙ ap (λ (x : List TNode). make b.name b.disposes b.members x) h
 
 pub one_component : (name text : List ℕ) (a b : Component) → IsFlat (text_read text) → SpellsFile name text a → SpellsFile name text b → a ≡ b
 one_component name text a b flat h i =
