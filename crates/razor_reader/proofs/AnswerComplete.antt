@@ -1,7 +1,9 @@
 -- A file that nests nowhere too deeply spells what reading its pieces gives, and nothing else.
 use Rattle.std.proofs.Common.{◌≡◌, ℕ, List, refl, sym, ap, ◌∙◌, subst}
 use Rattle.std.specs.Prelude.{Bool, true, Option, Some, None}
+use Rattle.text_core.specs.declared.place.Place.{Place}
 use Rattle.cs_ast.specs.declared.member.Member.{Member}
+use Rattle.razor_token.specs.Answers.{IsUncut}
 use Rattle.razor_token.specs.Cutting.{Cuts}
 use Rattle.razor_token.specs.declared.piece.Piece.{Piece}
 use Rattle.razor_token.proofs.CutLemmas.{one_cutting, cut-cover}
@@ -12,7 +14,7 @@ use Rattle.razor_ast.specs.FileTexts.{stem, text_read}
 use Rattle.razor_ast.specs.Nesting.{too_deep, open_at}
 use Rattle.razor_ast.specs.Pieces.{counted}
 use Rattle.razor_reader.specs.declared.whole.Parts.{Parts}
-use Rattle.razor_reader.specs.Answers.{IsFlat}
+use Rattle.razor_reader.specs.Answers.{IsFlat, SpellsNothing}
 use Rattle.razor_reader.specs.PieceAnswers.{Kept}
 use Rattle.razor_reader.specs.WholeReading.{parts}
 use Rattle.razor_reader.proofs.FileLemmas.{same_around}
@@ -60,8 +62,12 @@ one_component name text a b flat h i =
     same_component a b (h.named ∙ sym i.named) same.0 same.1 same.2
 
 -- where nothing is read of its pieces, a file spells no component
-pub no_component : (name text : List ℕ) (kept : List Piece) → Kept (text_read text) kept → parts kept ≡ None → (component : Component) → SpellsFile name text component → ⊥
-no_component name text kept k e component h =
+pub no_component : (name text : List ℕ) (kept : List Piece) → Kept (text_read text) kept → parts kept ≡ None → SpellsNothing name text
+no_component name text kept k e = λ component h.
     let x = file_read name text k.pieces component k.cut k.flat h in
     let none : Some x.final ≡ None = sym x.is ∙ ap parts (sym k.counts) ∙ e in
     absurd (cc)
+
+-- a file of which no pieces are cut spells none
+pub uncut_component : (name text : List ℕ) (place : Place) → IsUncut (text_read text) place → SpellsNothing name text
+uncut_component name text place h = λ component spelled. h.uncut spelled.spelled.pieces spelled.spelled.cut

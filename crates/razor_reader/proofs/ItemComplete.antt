@@ -27,7 +27,7 @@ use Rattle.razor_ast.specs.Attributes.{AttributesOf}
 use Rattle.razor_ast.specs.Brackets.{Round}
 use Rattle.razor_ast.specs.Literals.{is_edge}
 use Rattle.razor_ast.specs.Nesting.{open_at}
-use Rattle.razor_ast.specs.Nodes.{Spaced, Tag, Item, Content, Code, Within, Otherwise, Line, Lines, Sections}
+use Rattle.razor_ast.specs.Nodes.{Spaced, Inside, Tag, Item, Content, Code, Within, Otherwise, Line, Lines, Sections}
 use Rattle.razor_ast.specs.Nodes as g
 use Rattle.razor_ast.specs.Pieces.{IsKind, IsSign, IsWord}
 use Rattle.razor_ast.specs.Statements as g2
@@ -275,27 +275,37 @@ module _ (all : List Piece) where
   Clear f rest = f ≡ false → has m.Else rest ≡ false
 
   not_clear : (rest : List Piece) → Clear true rest
-  not_clear rest e = absurd (cc)
+  not_clear rest = λ e. absurd (cc)
+
+  -- what stands inside a tag leads, behind its attributes, to the whole tag
+  abbrev InsideLeads : List ℕ → ℕ → List Piece → List Piece → ℕ → List TNode → Type 0
+  InsideLeads name n us rest i children = (k0 : ℕ) (p : Piece) (attributes : List Attribute) (ps vs : List Piece) → FlatPieces ps → IsElementName name →
+      AttributesOf (open_at all) (is_component name) (k0 + 1) ps vs n attributes → Spaced vs us → Leads all (bg.tag all k0 p name ps) (p ∷ ps) rest i (g.tag_node (is_component name) k0 p name attributes children)
 
   mutual
-    tag_read : (n : ℕ) (ps rest : List Piece) (i : ℕ) (a : TNode) → FlatPieces ps → Tag (open_at all) n ps rest i a → TagLeads n ps rest i a
-    tag_read _ _ _ _ _ flat (g.tag name n l _ p ps us _ rest attributes _ is element spelled spaced (g.without_content _ _ end _ x)) =
-        let read = empty_tag_complete all n l p end name ps us rest attributes (flat_rest p ps flat) element spelled spaced x in
+    inside_read : (name : List ℕ) (n : ℕ) (ps rest : List Piece) (i : ℕ) (children : List TNode) → FlatPieces ps → Inside (open_at all) name n ps rest i children → InsideLeads name n ps rest i children
+    inside_read _ _ _ _ _ _ flat (g.without_content name n end rest x) = λ k0 p attributes ps us flat_ps element spelled spaced.
+        let read = empty_tag_complete all k0 n p end name ps us rest attributes flat_ps element spelled spaced x in
         let behind = far_end us (end ∷ rest) rest (spaced_end us (end ∷ rest) spaced) (one_end end rest rest (same_end rest)) in
-        let beyond = far_end ps us rest (attributes_end (open_at all) (is_component name) (n + 1) ps us l attributes spelled.spelled) behind in
-        of_tag n p name ps rest l (g.tag_node (is_component name) n p name attributes []) is element
-        (done all (bg.tag all n p name ps) (p ∷ ps) rest l (g.tag_node (is_component name) n p name attributes [])
-        (read ∙ ap (λ (a : TNode). Some (nx.Done a, l, rest)) (tag_same n p name attributes [])) (behind_first p ps rest beyond) (one_end p ps rest beyond))
-    tag_read _ _ _ _ _ flat (g.tag name n l _ p ps us _ rest attributes _ is element spelled spaced (g.with_content _ _ i begin close end vs zs _ children x content y apart z)) =
-        let read = tag_complete all n l p begin name ps us vs attributes (flat_rest p ps flat) element spelled spaced x in
+        let beyond = far_end ps us rest (attributes_end (open_at all) (is_component name) (k0 + 1) ps us n attributes spelled.spelled) behind in
+        done all (bg.tag all k0 p name ps) (p ∷ ps) rest n (g.tag_node (is_component name) k0 p name attributes [])
+        (read ∙ ap (λ (a : TNode). Some (nx.Done a, n, rest)) (tag_same k0 p name attributes [])) (behind_first p ps rest beyond) (one_end p ps rest beyond)
+    inside_read _ _ _ _ _ _ flat (g.with_content name n i begin close end vs zs rest children x content y apart z) = λ k0 p attributes ps us flat_ps element spelled spaced.
+        let read = tag_complete all k0 n p begin name ps us vs attributes flat_ps element spelled spaced x in
         let behind = far_end us (begin ∷ vs) vs (spaced_end us (begin ∷ vs) spaced) (one_end begin vs vs (same_end vs)) in
-        let beyond = far_end ps us vs (attributes_end (open_at all) (is_component name) (n + 1) ps us l attributes spelled.spelled) behind in
+        let beyond = far_end ps us vs (attributes_end (open_at all) (is_component name) (k0 + 1) ps us n attributes spelled.spelled) behind in
         let last = far_end zs (end ∷ rest) rest (spaced_end zs (end ∷ rest) apart) (one_end end rest rest (same_end rest)) in
-        let runs = content_read true l vs (close ∷ zs) i children (flat_end ps vs (flat_rest p ps flat) beyond) (end_no_item name close zs y) (end_no_else name close zs y) content in
+        let runs = content_read true n vs (close ∷ zs) i children (flat_rest begin vs flat) (end_no_item name close zs y) (end_no_else name close zs y) content in
+        content_leads all (bg.tag all k0 p name ps) (owner.Tag (open_tag k0 p name attributes)) n i i (p ∷ ps) vs (close ∷ zs) rest children (g.tag_node (is_component name) k0 p name attributes children) read runs
+        (tag_ends (open_tag k0 p name attributes) children i close end zs rest y apart z ∙ ap (λ (a : TNode). Some (nx.Done a, i, rest)) (tag_same k0 p name attributes children))
+        (behind_first p ps vs beyond) (behind_first close zs rest last) (one_end p ps vs beyond) (one_end close zs rest last)
+
+    tag_read : (n : ℕ) (ps rest : List Piece) (i : ℕ) (a : TNode) → FlatPieces ps → Tag (open_at all) n ps rest i a → TagLeads n ps rest i a
+    tag_read _ _ _ _ _ flat (g.tag name n l i p ps us vs rest attributes children is element spelled spaced h) =
+        let flat_ps = flat_rest p ps flat in
+        let beyond = far_end ps us vs (attributes_end (open_at all) (is_component name) (n + 1) ps us l attributes spelled.spelled) (spaced_end us vs spaced) in
         of_tag n p name ps rest i (g.tag_node (is_component name) n p name attributes children) is element
-        (content_leads all (bg.tag all n p name ps) (owner.Tag (open_tag n p name attributes)) l i i (p ∷ ps) vs (close ∷ zs) rest children (g.tag_node (is_component name) n p name attributes children) read runs
-        (tag_ends (open_tag n p name attributes) children i close end zs rest y apart z ∙ ap (λ (a : TNode). Some (nx.Done a, i, rest)) (tag_same n p name attributes children))
-        (behind_first p ps vs beyond) (behind_first close zs rest last) (one_end p ps vs beyond) (one_end close zs rest last))
+        (inside_read name l vs rest i children (flat_end ps vs flat_ps beyond) h n p attributes ps us flat_ps element spelled spaced)
 
     pub item_read : (n : ℕ) (ps rest : List Piece) (i : ℕ) (a : TNode) → FlatPieces ps → has m.Else rest ≡ false → Item (open_at all) n ps rest i a → Leads all (bg.begin all wanted.Item n ps) ps rest i a
     item_read _ _ _ _ _ flat clear (g.of_tag n i ps rest node h) = (tag_read n ps rest i node flat h).in_item

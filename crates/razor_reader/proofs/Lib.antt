@@ -44,6 +44,7 @@ pub mod ListRuns
 pub mod ItemComplete
 pub mod ItemSound
 pub mod WholeSound
+pub mod NumberLemmas
 pub mod WholeComplete
 pub mod AnswerComplete
 pub mod AnswerLemmas
