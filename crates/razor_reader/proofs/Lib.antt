@@ -5,6 +5,7 @@ pub mod LeavingLemmas
 pub mod ListLoops
 pub mod PieceLoops
 pub mod LabelLoops
+pub mod HeadLoops
 pub mod AttributeLoops
 pub mod TurnLoops
 pub mod FileLemmas
@@ -38,6 +39,7 @@ pub mod GoingSound
 pub mod ItemSound
 pub mod WholeSound
 pub mod AnswerLemmas
+pub mod PlaceLemmas
 pub mod FileNameLemmas
 pub mod SumLemmas
 pub mod LexLemmas
