@@ -3,7 +3,7 @@ use Rattle.std.specs.Prelude.{◌≡◌, ◌⊎◌, ℕ, List, Some, None, Resul
 use Rattle.std.specs.List.{slice_get}
 use Rattle.std.specs.Global.{Vec}
 use Rattle.text_core.specs.declared.place.Place.{Place}
-use Rattle.razor_token.specs.Answers.{IsPlaceIn}
+use Rattle.razor_token.specs.Answers.{IsPlaceIn, IsUncut}
 use Rattle.razor_token.specs.Cutting.{Cuts}
 use Rattle.razor_token.specs.declared.piece.Piece.{Piece}
 use Rattle.razor_ast.specs.declared.component.Component.{Component}
@@ -13,7 +13,7 @@ use Rattle.razor_ast.specs.Pieces.{counted}
 use Rattle.razor_reader.specs.declared.fault.ReadFault.{ReadFault}
 use Rattle.razor_reader.specs.declared.fault.ReadFault.TheVariants as f
 use Rattle.razor_reader.specs.declared.whole.Parts.{Parts}
-use Rattle.razor_reader.specs.Answers.{IsFlat, NestsTooDeep}
+use Rattle.razor_reader.specs.Answers.{NestsTooDeep}
 use Rattle.razor_reader.specs.WholeReading.{parts}
 
 -- these are the pieces of the text that count, and the pieces nest nowhere too deeply
@@ -28,7 +28,7 @@ abbrev pub Flattened : List ℕ → Result (Vec Piece) ReadFault → Type 0
 Flattened text (Ok kept) = Kept text kept.items
 Flattened text (Err f.TooLong) = ⊥
 Flattened text (Err (f.TooDeep place)) = NestsTooDeep text place
-Flattened text (Err (f.Syntax place)) = IsFlat text × IsPlaceIn text place
+Flattened text (Err (f.Syntax place)) = IsUncut text place
 Flattened text (Err f.Oom) = Unit {0}
 
 -- the place of one of the pieces, or this one
