@@ -74,7 +74,7 @@ unfolding Known
 in_brackets_whole [] count us ts e = absurd (cc)
 in_brackets_whole (p ∷ ps) count us ts e = by_kind p ps us ts count p.kind refl (in_brackets_whole ps) e
 
-in_brackets_is : (ps us : List Piece) (ts : List Token) (count : ℕ) → in_brackets ps count ≡ Some (ts, us) → ps ≡ codes_of ts ++ us
+pub in_brackets_is : (ps us : List Piece) (ts : List Token) (count : ℕ) → in_brackets ps count ≡ Some (ts, us) → ps ≡ codes_of ts ++ us
 unfolding Known
 in_brackets_is ps us ts count e = in_brackets_whole ps count us ts e
 

@@ -196,7 +196,7 @@ label_shorter _ _ _ (g.label ts c rest a none is h) = longer ts
     longer [] = omega arith
     longer (u ∷ ts) = let less = longer ts in omega arith
 
-labels_begin : (ps rest : List Piece) (labels : List Label) → SomeLabels ps rest labels → has_label ps ≡ true
+pub labels_begin : (ps rest : List Piece) (labels : List Label) → SomeLabels ps rest labels → has_label ps ≡ true
 labels_begin _ _ _ (g.one ps rest a h) = label_begins ps rest a h
 labels_begin _ _ _ (g.more ps us rest a labels h more) = label_begins ps us a h
 

@@ -51,7 +51,7 @@ use Rattle.razor_reader.proofs.HeadComplete.{round_complete, flat_round, conditi
 use Rattle.razor_reader.proofs.SimpleComplete.{simple_is, simple_complete}
 use Rattle.razor_reader.proofs.ValueComplete.{FlatPieces, after_is, bind_is}
 
--- a mark that begins no other statement than a simple one
+-- a mark that begins a simple statement, if a statement at all
 abbrev pub is_other : Mark → Bool
 is_other m.OpenBrace = false
 is_other m.If = false
@@ -61,6 +61,10 @@ is_other m.Foreach = false
 is_other m.Switch = false
 is_other m.Break = false
 is_other m.Continue = false
+is_other m.CloseBrace = false
+is_other m.Case = false
+is_other m.Default = false
+is_other m.Else = false
 is_other _ = true
 
 abbrev pub begins_simple : List Token → Bool
@@ -73,6 +77,7 @@ first_is u ts kind i f = ap (λ kind. is_other (token_mark kind)) i ∙ f
 of_unary : (sign : Sign) (op : UnaryOp) → unary_operator sign ≡ Some op → is_other (sign_mark sign) ≡ true
 unfolding unary_operator sign_mark
 of_unary s.OpenBrace op i = absurd (cc)
+of_unary s.CloseBrace op i = absurd (cc)
 of_unary _ op i = refl
 
 of_literal : (word : Word) (x : ExprKind) → literal word ≡ Some x → is_other (word_mark word) ≡ true
@@ -84,6 +89,9 @@ of_literal w.Foreach x i = absurd (cc)
 of_literal w.Switch x i = absurd (cc)
 of_literal w.Break x i = absurd (cc)
 of_literal w.Continue x i = absurd (cc)
+of_literal w.Case x i = absurd (cc)
+of_literal w.Default x i = absurd (cc)
+of_literal w.Else x i = absurd (cc)
 of_literal _ x i = refl
 
 of_static : (word : Word) (x : StaticType) → static_type word ≡ Some x → is_other (word_mark word) ≡ true
@@ -95,6 +103,9 @@ of_static w.Foreach x i = absurd (cc)
 of_static w.Switch x i = absurd (cc)
 of_static w.Break x i = absurd (cc)
 of_static w.Continue x i = absurd (cc)
+of_static w.Case x i = absurd (cc)
+of_static w.Default x i = absurd (cc)
+of_static w.Else x i = absurd (cc)
 of_static _ x i = refl
 
 of_plain : (word : Word) (x : TypeKind × Bool) → plain_type word ≡ Some x → is_other (word_mark word) ≡ true
@@ -106,6 +117,9 @@ of_plain w.Foreach x i = absurd (cc)
 of_plain w.Switch x i = absurd (cc)
 of_plain w.Break x i = absurd (cc)
 of_plain w.Continue x i = absurd (cc)
+of_plain w.Case x i = absurd (cc)
+of_plain w.Default x i = absurd (cc)
+of_plain w.Else x i = absurd (cc)
 of_plain _ x i = refl
 
 open_round : is_other (sign_mark s.OpenRound) ≡ true
@@ -217,10 +231,10 @@ statement_first _ _ _ _ _ (cs.continue_ j f u c rest i i1 i2) x = clash _ x (ap 
 
 -- the statement that a piece's mark begins
 
-by_mark : (b : Bool) (p : Place) (j : Jumps) (n : ℕ) (u : Piece) (ps : List Piece) (mark : Mark) → mark_of u.kind ≡ mark → r.statement b p j n (u ∷ ps) ≡ r.statement_by mark b p j n u ps
+pub by_mark : (b : Bool) (p : Place) (j : Jumps) (n : ℕ) (u : Piece) (ps : List Piece) (mark : Mark) → mark_of u.kind ≡ mark → r.statement b p j n (u ∷ ps) ≡ r.statement_by mark b p j n u ps
 by_mark b p j n u ps mark i = ap (λ mark. r.statement_by mark b p j n u ps) i
 
-word_mark_is : (u : Piece) (word : Word) (mark : Mark) → IsWord word u → word_mark word ≡ mark → mark_of u.kind ≡ mark
+pub word_mark_is : (u : Piece) (word : Word) (mark : Mark) → IsWord word u → word_mark word ≡ mark → mark_of u.kind ≡ mark
 word_mark_is u word mark i e = ap mark_of i ∙ e
 
 other_by : (p : Place) (j : Jumps) (n : ℕ) (u : Piece) (ps : List Piece) (mark : Mark) → is_other mark ≡ true → r.statement_by mark false p j n u ps ≡ r.simple_statement false n (u ∷ ps)
@@ -232,11 +246,47 @@ other_by p j n u ps m.Foreach i = absurd (cc)
 other_by p j n u ps m.Switch i = absurd (cc)
 other_by p j n u ps m.Break i = absurd (cc)
 other_by p j n u ps m.Continue i = absurd (cc)
+other_by p j n u ps m.CloseBrace i = absurd (cc)
+other_by p j n u ps m.Case i = absurd (cc)
+other_by p j n u ps m.Default i = absurd (cc)
+other_by p j n u ps m.Else i = absurd (cc)
 other_by p j n u ps _ i = refl
 
 simple_by : (p : Place) (j : Jumps) (n : ℕ) (ts : List Token) (rest : List Piece) → begins_simple ts ≡ true → r.statement false p j n (codes_of ts ++ rest) ≡ r.simple_statement false n (codes_of ts ++ rest)
 simple_by p j n [] rest i = absurd (cc)
 simple_by p j n (u ∷ ts) rest i = other_by p j n (code u) (codes_of ts ++ rest) (token_mark u.kind) i
+
+-- a mark that may begin a statement
+abbrev pub is_free : Mark → Bool
+is_free m.CloseBrace = false
+is_free m.Case = false
+is_free m.Default = false
+is_free m.Else = false
+is_free _ = true
+
+other_free : (mark : Mark) → is_other mark ≡ true → is_free mark ≡ true
+other_free m.CloseBrace i = absurd (cc)
+other_free m.Case i = absurd (cc)
+other_free m.Default i = absurd (cc)
+other_free m.Else i = absurd (cc)
+other_free _ i = refl
+
+-- a piece of code that may begin a statement stands first
+pub record Starts (ps : List Piece) : Type 0 where
+  pub p : Piece
+  pub us : List Piece
+  pub kind : TokenKind
+  pub whole : ps ≡ p ∷ us
+  pub is : p.kind ≡ k.Code kind
+  pub free : is_free (token_mark kind) ≡ true
+
+codes_start : (ts : List Token) (rest : List Piece) → begins_simple ts ≡ true → Starts (codes_of ts ++ rest)
+codes_start [] rest i = absurd (cc)
+codes_start (u ∷ ts) rest i = record { p = code u; us = codes_of ts ++ rest; kind = u.kind; whole = refl; is = refl; free = other_free (token_mark u.kind) i }
+
+pub simple_starts : (ps rest : List Piece) (a : Stmt) → Simple ps rest a → Starts ps
+simple_starts _ _ _ (g.simple ts c rest a none is h kind) =
+    codes_start (ts ++ c ∷ []) rest (statement_first cs.no_jumps true (ts ++ c ∷ []) [] a h (simple_is a.place a.kind kind))
 
 -- each form
 

@@ -23,14 +23,17 @@ IsFlat text = (pieces : List Piece) → Cuts text pieces → too_deep pieces ≡
 abbrev pub NestsTooDeep : List ℕ → Place → Type 0
 NestsTooDeep text place = (pieces : List Piece) × Cuts text pieces × (too_deep pieces ≡ Some place)
 
+-- the file spells no component
+abbrev pub SpellsNothing : List ℕ → List ℕ → Type 0
+SpellsNothing name text = (c : Component) → SpellsFile name text c → ⊥
+
 -- By the component, where a file of the name and the text spells it and nests nowhere too deeply; by TooLong, where the text as it is
--- given has too many bytes; by TooDeep, at the first place where it nests too deeply; by Syntax, where it nests nowhere too deeply and
--- spells no component.
+-- given has too many bytes; by TooDeep, at the first place where it nests too deeply; by Syntax, where it does neither.
 abbrev pub Answers : List ℕ → List ℕ → Result Component ReadFault → Type 0
 Answers name text (Ok c) = IsShort text × IsFlat (text_read text) × SpellsFile name text c
 Answers name text (Err f.TooLong) = 1048576 < length (encode_utf8_all text)
 Answers name text (Err (f.TooDeep place)) = IsShort text × NestsTooDeep (text_read text) place
-Answers name text (Err (f.Syntax place)) = IsShort text × IsFlat (text_read text) × ((c : Component) → SpellsFile name text c → ⊥)
+Answers name text (Err (f.Syntax place)) = IsShort text × IsFlat (text_read text) × SpellsNothing name text
 Answers name text (Err f.Oom) = Unit {0}
 
 -- so of a Syntax: its place is that of a character of the text that is read, or that behind its last

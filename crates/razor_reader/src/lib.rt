@@ -18,6 +18,7 @@ mod go_on;
 mod heads;
 mod item;
 mod labels;
+mod laws;
 mod mark;
 mod names;
 mod reader;
@@ -27,6 +28,7 @@ mod unread;
 mod whole;
 
 pub use fault::ReadFault;
+pub use laws::a_file_spells_one_component;
 pub use reader::read;
 
 #[cfg(test)]
