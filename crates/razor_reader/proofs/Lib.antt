@@ -5,6 +5,7 @@ pub mod LeavingLemmas
 pub mod ListLoops
 pub mod PieceLoops
 pub mod LabelLoops
+pub mod HeadLoops
 pub mod AttributeLoops
 pub mod TurnLoops
 pub mod FileLemmas
@@ -48,6 +49,8 @@ pub mod NumberLemmas
 pub mod WholeComplete
 pub mod AnswerComplete
 pub mod AnswerLemmas
+pub mod PlaceLemmas
+pub mod ReadAnswers
 pub mod FileNameLemmas
 pub mod SumLemmas
 pub mod LexLemmas

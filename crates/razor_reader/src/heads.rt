@@ -13,6 +13,7 @@ use razor_token::Piece;
 use std::alloc::{AllocError, Global};
 
 /// The tokens up to and with the first semicolon, and those behind it.
+#[tactic(auto, using(crate::proofs::HeadLoops::nothing_head, crate::proofs::HeadLoops::semicolon_more, crate::proofs::HeadLoops::semicolon_here, crate::proofs::HeadLoops::semicolon_none))]
 fn to_semicolon<'a>(tokens: &'a [Token]) -> Option<(&'a [Token], &'a [Token])>
     ensures { MatchOption result
         (spec.to_semicolon tokens.now ≡ None)

@@ -1,0 +1,51 @@
+-- Turns of the loop that looks for a semicolon.
+use Rattle.std.proofs.Common.{◌≡◌, ℕ, ◌+◌, ◌<◌, ◌≤◌, List, [], ◌∷◌, ◌++◌, length, take, drop, get_or, refl, sym, ap, ◌∙◌, append_assoc}
+use Rattle.std.specs.Prelude.{true, false, if◌then◌else◌, Option, Some, None}
+use Rattle.std.proofs.lemmas.List.{take_more, at_drop_more, at_drop_all}
+use Rattle.cs_token.specs.declared.token.Token.{Token}
+use Rattle.razor_reader.specs.declared.mark.Mark.TheVariants as m
+use Rattle.razor_reader.specs.Marks.{is_token}
+use Rattle.razor_reader.specs.Reading.{◌>>=◌}
+use Rattle.razor_reader.specs.HeadReading.{to_semicolon}
+
+abbrev pub Halves : Type 0
+Halves = Option (List Token × List Token)
+
+-- these tokens go before the first half
+abbrev pub with_head : List Token → Halves → Halves
+with_head ts None = None
+with_head ts (Some x) = Some (ts ++ x.0, x.1)
+
+head_more : (ts : List Token) (u : Token) (o : Halves) → with_head ts (o >>= λ x. Some (u ∷ x.0, x.1)) ≡ with_head (ts ++ u ∷ []) o
+head_more ts u None = refl
+head_more ts u (Some x) = ap (λ l. Some (l, x.1)) (sym (append_assoc ts (u ∷ []) x.0))
+
+pub nothing_head : (o : Halves) → o ≡ with_head [] o
+nothing_head None = refl
+nothing_head (Some x) = refl
+
+one_more : (ts : List Token) (i : ℕ) (u : Token) → i < length ts → u ≡ get_or ts i u → take i ts ++ u ∷ [] ≡ take (i + 1) ts
+one_more ts i u h e = ap (λ v. take i ts ++ v ∷ []) e ∙ sym (take_more ts i u h)
+
+at_token : (ts : List Token) (i : ℕ) (u : Token) → i < length ts → u ≡ get_or ts i u → with_head (take i ts) (to_semicolon (drop i ts)) ≡ with_head (take i ts) (to_semicolon (u ∷ drop (i + 1) ts))
+at_token ts i u h e =
+    ap (with_head (take i ts)) (at_drop_more to_semicolon ts i u h)
+    ∙ ap (λ v. with_head (take i ts) (to_semicolon (v ∷ drop (i + 1) ts))) (sym e)
+
+pub semicolon_more : (ts : List Token) (i : ℕ) (u : Token) → i < length ts → u ≡ get_or ts i u → is_token m.Semicolon u.kind ≡ false →
+    with_head (take i ts) (to_semicolon (drop i ts)) ≡ with_head (take (i + 1) ts) (to_semicolon (drop (i + 1) ts))
+semicolon_more ts i u h e f =
+    at_token ts i u h e
+    ∙ ap (λ b. with_head (take i ts) (if b then Some (u ∷ [], drop (i + 1) ts) else (to_semicolon (drop (i + 1) ts) >>= λ x. Some (u ∷ x.0, x.1)))) f
+    ∙ head_more (take i ts) u (to_semicolon (drop (i + 1) ts))
+    ∙ ap (λ l. with_head l (to_semicolon (drop (i + 1) ts))) (one_more ts i u h e)
+
+pub semicolon_here : (ts : List Token) (i : ℕ) (u : Token) → i < length ts → u ≡ get_or ts i u → is_token m.Semicolon u.kind ≡ true →
+    with_head (take i ts) (to_semicolon (drop i ts)) ≡ Some (take (i + 1) ts, drop (i + 1) ts)
+semicolon_here ts i u h e f =
+    at_token ts i u h e
+    ∙ ap (λ b. with_head (take i ts) (if b then Some (u ∷ [], drop (i + 1) ts) else (to_semicolon (drop (i + 1) ts) >>= λ x. Some (u ∷ x.0, x.1)))) f
+    ∙ ap (λ l. Some (l, drop (i + 1) ts)) (one_more ts i u h e)
+
+pub semicolon_none : (ts : List Token) (i : ℕ) → length ts ≤ i → with_head (take i ts) (to_semicolon (drop i ts)) ≡ None
+semicolon_none ts i h = ap (with_head (take i ts)) (at_drop_all to_semicolon ts i h)
