@@ -40,10 +40,11 @@ file_read name text pieces component cut flat h =
 same_parts : (read : Option Parts) (d0 d1 : Bool) (m0 m1 : List Member) (n0 n1 : List TNode) → Got read d0 m0 n0 → Got read d1 m1 n1 → (d0 ≡ d1) × (m0 ≡ m1) × (n0 ≡ n1)
 same_parts read d0 d1 m0 m1 n0 n1 a b =
     let found : Some a.final ≡ Some b.final = sym a.is ∙ b.is in
-    let same : a.final ≡ b.final = cc in
-    (sym a.disposes_is ∙ ap (λ (x : Parts). x.disposes) same ∙ b.disposes_is,
-    sym a.members_is ∙ ap (λ (x : Parts). x.members) same ∙ b.members_is,
-    sym a.nodes_is ∙ ap (λ (x : Parts). x.nodes) same ∙ b.nodes_is)
+    let same : a.final ≡ b.final = cc in (
+      sym a.disposes_is ∙ ap (λ (x : Parts). x.disposes) same ∙ b.disposes_is,
+      sym a.members_is ∙ ap (λ (x : Parts). x.members) same ∙ b.members_is,
+      sym a.nodes_is ∙ ap (λ (x : Parts). x.nodes) same ∙ b.nodes_is,
+    )
 
 abbrev make : List ℕ → Bool → List Member → List TNode → Component
 make name disposes members nodes = record { name = name; disposes = disposes; members = members; nodes = nodes }

@@ -305,7 +305,7 @@ space_no_start = refl
 some_clear : (around : Piece → List ℕ) (component : Bool) (n : ℕ) (ps rest : List Piece) (n2 : ℕ) (found : List Attribute) → SomeAttributes around component n ps rest n2 found
     → has m.ValueStart rest ≡ false → has m.ValueStart ps ≡ false
 some_clear around component _ _ _ _ _ (g.none n rest) clear = clear
-some_clear around component _ _ _ _ _ (g.more n i n2 space ps us rest a others s h more) clear = ap (is_mark m.ValueStart) s ∙ space_no_start
+some_clear around component _ _ _ _ _ (g.more n i n2 space ps us rest a others s h next) clear = ap (is_mark m.ValueStart) s ∙ space_no_start
 
 abbrev then_more : List Piece → Bool → ℕ → Attribute × ℕ × List Piece → Numbered (List Attribute)
 then_more all component left x = r.attributes_in all component left x.1 x.2 >>= λ y. Some (x.0 ∷ y.0, y.1, y.2)
@@ -318,14 +318,14 @@ attributes_in_complete : (all : List Piece) (component : Bool) (left n : ℕ) (p
 unfolding r.attributes_in
 attributes_in_complete all component zero _ _ _ _ _ short flat clear stops h = absurd (omega arith)
 attributes_in_complete all component (suc left) _ _ _ _ _ short flat clear stops (g.none n rest) = ap (attributes_step all component left n rest) stops
-attributes_in_complete all component (suc left) _ _ _ _ _ short flat clear stops (g.more n i n2 space ps us rest a others s h more) =
+attributes_in_complete all component (suc left) _ _ _ _ _ short flat clear stops (g.more n i n2 space ps us rest a others s h next) =
     let b = behind_attribute (open_at all) component n ps us i a h in
     let less = b.less in
     let there : r.to_attribute (space ∷ ps) ≡ Some ps =
     bind_is (after m.Space (space ∷ ps)) ps r.if_attribute (after_is m.Space k.Space space ps space_is s) ∙ attribute_begins (open_at all) component n ps us i a h in
     let flat_ps = flat_rest space ps flat in
-    let first = tag_complete all component n ps us i a flat_ps (some_clear (open_at all) component i us rest n2 others more clear) h in
-    let read = attributes_in_complete all component left i us rest n2 others (omega arith) (flat_behind b.pre us (subst FlatPieces b.whole flat_ps)) clear stops more in
+    let first = tag_complete all component n ps us i a flat_ps (some_clear (open_at all) component i us rest n2 others next clear) h in
+    let read = attributes_in_complete all component left i us rest n2 others (omega arith) (flat_behind b.pre us (subst FlatPieces b.whole flat_ps)) clear stops next in
     ap (attributes_step all component left n (space ∷ ps)) there
     ∙ bind_is (r.attribute_first all component n ps) (a, i, us) (then_more all component left) first
     ∙ bind_is (r.attributes_in all component left i us) (others, n2, rest) (λ y. Some (a ∷ y.0, y.1, y.2)) read

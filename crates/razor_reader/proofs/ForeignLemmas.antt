@@ -79,69 +79,91 @@ of_plain _ x e = refl
 question : arrow s.Question ≡ 0
 unfolding arrow
 question = refl
+
 colon : arrow s.Colon ≡ 0
 unfolding arrow
 colon = refl
+
 open_round : arrow s.OpenRound ≡ 0
 unfolding arrow
 open_round = refl
+
 close_round : arrow s.CloseRound ≡ 0
 unfolding arrow
 close_round = refl
+
 open_square : arrow s.OpenSquare ≡ 0
 unfolding arrow
 open_square = refl
+
 close_square : arrow s.CloseSquare ≡ 0
 unfolding arrow
 close_square = refl
+
 open_brace : arrow s.OpenBrace ≡ 0
 unfolding arrow
 open_brace = refl
+
 close_brace : arrow s.CloseBrace ≡ 0
 unfolding arrow
 close_brace = refl
+
 question_dot : arrow s.QuestionDot ≡ 0
 unfolding arrow
 question_dot = refl
+
 dot : arrow s.Dot ≡ 0
 unfolding arrow
 dot = refl
+
 comma : arrow s.Comma ≡ 0
 unfolding arrow
 comma = refl
+
 assign : arrow s.Assign ≡ 0
 unfolding arrow
 assign = refl
+
 less : arrow s.Less ≡ 0
 unfolding arrow
 less = refl
+
 greater : arrow s.Greater ≡ 0
 unfolding arrow
 greater = refl
+
 text_start : arrow s.InterpolationStart ≡ 0
 unfolding arrow
 text_start = refl
+
 text_end : arrow s.InterpolationEnd ≡ 0
 unfolding arrow
 text_end = refl
+
 hole_open : arrow s.HoleOpen ≡ 0
 unfolding arrow
 hole_open = refl
+
 hole_close : arrow s.HoleClose ≡ 0
 unfolding arrow
 hole_close = refl
+
 string : markup w.String ≡ 0
 unfolding markup
 string = refl
+
 new : markup w.New ≡ 0
 unfolding markup
 new = refl
+
 list : markup w.ImmutableList ≡ 0
 unfolding markup
 list = refl
+
 callback : markup w.EventCallback ≡ 0
 unfolding markup
 callback = refl
+
 fragment : markup w.RenderFragment ≡ 0
 unfolding markup
 fragment = refl

@@ -50,6 +50,7 @@ pub mod WholeComplete
 pub mod AnswerComplete
 pub mod AnswerLemmas
 pub mod PlaceLemmas
+pub mod PlaceBounds
 pub mod ReadAnswers
 pub mod FileNameLemmas
 pub mod SumLemmas

@@ -198,7 +198,7 @@ label_shorter _ _ _ (g.label ts c rest a none is h) = longer ts
 
 pub labels_begin : (ps rest : List Piece) (labels : List Label) → SomeLabels ps rest labels → has_label ps ≡ true
 labels_begin _ _ _ (g.one ps rest a h) = label_begins ps rest a h
-labels_begin _ _ _ (g.more ps us rest a labels h more) = label_begins ps us a h
+labels_begin _ _ _ (g.more ps us rest a labels h next) = label_begins ps us a h
 
 abbrev labels_step : ℕ → Label → List Piece → Bool → Read (List Label)
 labels_step n a rest b = if b then (labels_in n rest >>= λ y. Some (a ∷ y.0, y.1)) else Some (a ∷ [], rest)
@@ -208,12 +208,12 @@ unfolding labels_in
 labels_in_is zero _ _ _ short stops (g.one ps rest a h) = let less = label_shorter ps rest a h in absurd (omega arith)
 labels_in_is (suc n) _ _ _ short stops (g.one ps rest a h) =
     bind_is (label_first ps) (a, rest) (λ x. labels_step n x.0 x.1 (has_label x.1)) (label_first_is ps rest a h) ∙ ap (labels_step n a rest) stops
-labels_in_is zero _ _ _ short stops (g.more ps us rest a labels h more) = let less = label_shorter ps us a h in absurd (omega arith)
-labels_in_is (suc n) _ _ _ short stops (g.more ps us rest a labels h more) =
+labels_in_is zero _ _ _ short stops (g.more ps us rest a labels h next) = let less = label_shorter ps us a h in absurd (omega arith)
+labels_in_is (suc n) _ _ _ short stops (g.more ps us rest a labels h next) =
     let less = label_shorter ps us a h in
     bind_is (label_first ps) (a, us) (λ x. labels_step n x.0 x.1 (has_label x.1)) (label_first_is ps us a h)
-    ∙ ap (labels_step n a us) (labels_begin us rest labels more)
-    ∙ bind_is (labels_in n us) (labels, rest) (λ y. Some (a ∷ y.0, y.1)) (labels_in_is n us rest labels (omega arith) stops more)
+    ∙ ap (labels_step n a us) (labels_begin us rest labels next)
+    ∙ bind_is (labels_in n us) (labels, rest) (λ y. Some (a ∷ y.0, y.1)) (labels_in_is n us rest labels (omega arith) stops next)
 
 pub labels_complete : (ps rest : List Piece) (labels : List Label) → has_label rest ≡ false → SomeLabels ps rest labels → labels_first ps ≡ Some (labels, rest)
 unfolding labels_first

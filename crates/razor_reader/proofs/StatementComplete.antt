@@ -328,10 +328,10 @@ foreach_mark = refl
 
 pub foreach_begins : (b : Bool) (p : Place) (j : Jumps) (n : ℕ) (u : Piece) (name : Token) (x : List ℕ) (ps us : List Piece) (ts : List Token) (a : Expr) → FlatPieces ps → IsWord w.Foreach u → Round ps ts us
     → ForEachHead ts name x a → r.statement b p j n (u ∷ ps) ≡ Some (r.inside_loop (fr.ForEach n p (ident name x) a) b, n + 1, us)
-foreach_begins b p j n u name x ps us ts a f i h head =
+foreach_begins b p j n u name x ps us ts a f i h parts =
     by_mark b p j n u ps m.Foreach (word_mark_is u w.Foreach m.Foreach i foreach_mark)
     ∙ bind_is (round ps) (ts, us) (λ y. (for_each_head y.0 >>= λ z. Some (r.inside_loop (fr.ForEach n p z.0 z.1) b, n + 1, y.1))) (round_complete ps us ts h)
-    ∙ bind_is (for_each_head ts) (ident name x, a) (λ z. Some (r.inside_loop (fr.ForEach n p z.0 z.1) b, n + 1, us)) (for_each_complete ts name x a (flat_round ps us ts f h) head)
+    ∙ bind_is (for_each_head ts) (ident name x, a) (λ z. Some (r.inside_loop (fr.ForEach n p z.0 z.1) b, n + 1, us)) (for_each_complete ts name x a (flat_round ps us ts f h) parts)
 
 switch_mark : word_mark w.Switch ≡ m.Switch
 unfolding word_mark

@@ -1,5 +1,7 @@
 // Laws of the definitions that contracts cite. Each function does nothing: its contract is the law.
 ghost use Rattle.std.specs.Prelude.{◌≡◌, ◌≤◌, ◌+◌, List, ℕ, length};
+ghost use Rattle.text_core.specs.declared.place.Place.{Place as Where};
+ghost use Rattle.razor_token.specs.Answers.{IsPlaceIn};
 ghost use Rattle.razor_token.specs.declared.piece.Piece.{Piece as Part};
 ghost use Rattle.razor_ast.specs.declared.node.TNode.{TNode as Node};
 ghost use Rattle.razor_ast.specs.Nodes.{Item};
@@ -16,4 +18,9 @@ pub fn a_file_spells_one_component()
 /// A part of content takes no more numbers than it has pieces.
 pub fn numbers_rise_no_faster_than_pieces()
     ensures { (around : Part → List ℕ) (n : ℕ) (ps : List Part) (rest : List Part) (m : ℕ) (node : Node) → Item around n ps rest m node → m + length rest ≤ n + length ps }
+{}
+
+/// The line and the column of a place in a text are together at most two more than the text has characters.
+pub fn places_are_no_further_than_the_text_is_long()
+    ensures { (text : List ℕ) (place : Where) → IsPlaceIn text place → place.line + place.column ≤ length text + 2 }
 {}

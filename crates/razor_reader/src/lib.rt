@@ -28,7 +28,10 @@ mod unread;
 mod whole;
 
 pub use fault::ReadFault;
-pub use laws::{a_file_spells_one_component, numbers_rise_no_faster_than_pieces};
+pub use laws::{
+    a_file_spells_one_component, numbers_rise_no_faster_than_pieces,
+    places_are_no_further_than_the_text_is_long,
+};
 pub use reader::read;
 
 #[cfg(test)]
