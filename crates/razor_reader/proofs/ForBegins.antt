@@ -29,8 +29,8 @@ for_mark = refl
 
 pub for_begins : (b : Bool) (p : Place) (j : Jumps) (n : ℕ) (u : Piece) (ps us : List Piece) (ts : List Token) (start : Option Stmt) (condition step : Option Expr) → FlatPieces ps → IsWord w.For u → Round ps ts us
     → ForHead ts start condition step → r.statement b p j n (u ∷ ps) ≡ Some (r.inside_loop (fr.For n p start condition step) b, n + 1, us)
-for_begins b p j n u ps us ts start condition step f i h head =
+for_begins b p j n u ps us ts start condition step f i h parts =
     by_mark b p j n u ps m.For (word_mark_is u w.For m.For i for_mark)
     ∙ bind_is (round ps) (ts, us) (λ y. (for_head y.0 >>= λ x. Some (r.inside_loop (fr.For n p x.0 x.1 x.2) b, n + 1, y.1))) (round_complete ps us ts h)
     ∙ bind_is (for_head ts) (start, condition, step) (λ x. Some (r.inside_loop (fr.For n p x.0 x.1 x.2) b, n + 1, us))
-    (for_head_complete ts start condition step (flat_round ps us ts f h) head)
+    (for_head_complete ts start condition step (flat_round ps us ts f h) parts)

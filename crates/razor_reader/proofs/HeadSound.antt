@@ -1,6 +1,6 @@
 -- What is read as labels and heads of loops is spelled so.
 use Rattle.std.proofs.Common.{◌≡◌, ℕ, zero, suc, List, [], ◌∷◌, ◌++◌, length, refl, sym, ap, ◌∙◌, subst}
-use Rattle.std.specs.Prelude.{Bool, true, false, not, ◌&&◌, if◌then◌else◌, Option, Some, None}
+use Rattle.std.specs.Prelude.{pos, Bool, true, false, not, ◌&&◌, if◌then◌else◌, Option, Some, None}
 use Rattle.std.specs.List.{list_all}
 use Rattle.cs_ast.specs.declared.expression.Expr.{Expr}
 use Rattle.cs_ast.specs.declared.expression.Label.{Label}
@@ -76,7 +76,7 @@ constant_sound u c (t.Word word) kind i e = word_constant u c word kind i e
 constant_sound u c _ kind i e = absurd (cc)
 
 negative_sound : (m u c : Token) (of : TokenKind) (kind : LabelKind) → IsSign s.Minus m → u.kind ≡ of → r.negative of ≡ Some kind → Constant (m ∷ u ∷ c ∷ []) (c ∷ []) (r.label m kind)
-negative_sound m u c (t.Number n) kind j i e = moved {A = LabelKind} (λ x. Constant (m ∷ u ∷ c ∷ []) (c ∷ []) (r.label m x)) e (cs.minus n m u (c ∷ []) j i)
+negative_sound m u c (t.Number (pos n)) kind j i e = moved {A = LabelKind} (λ x. Constant (m ∷ u ∷ c ∷ []) (c ∷ []) (r.label m x)) e (cs.minus n m u (c ∷ []) j i)
 negative_sound m u c _ kind j i e = absurd (cc)
 
 label_of_sound : (ts : List Token) (c : Token) (a : Label) → r.last_of ts ≡ Some c → IsSign s.Colon c → r.label_of ts ≡ Some a → Labelled ts [] a

@@ -290,14 +290,14 @@ module _ (all : List Piece) where
         let beyond = far_end ps us rest (attributes_end (open_at all) (is_component name) (k0 + 1) ps us n attributes spelled.spelled) behind in
         done all (bg.tag all k0 p name ps) (p ∷ ps) rest n (g.tag_node (is_component name) k0 p name attributes [])
         (read ∙ ap (λ (a : TNode). Some (nx.Done a, n, rest)) (tag_same k0 p name attributes [])) (behind_first p ps rest beyond) (one_end p ps rest beyond)
-    inside_read _ _ _ _ _ _ flat (g.with_content name n i begin close end vs zs rest children x content y apart z) = λ k0 p attributes ps us flat_ps element spelled spaced.
+    inside_read _ _ _ _ _ _ flat (g.with_content name n i begin close end vs zs rest children x content y white z) = λ k0 p attributes ps us flat_ps element spelled spaced.
         let read = tag_complete all k0 n p begin name ps us vs attributes flat_ps element spelled spaced x in
         let behind = far_end us (begin ∷ vs) vs (spaced_end us (begin ∷ vs) spaced) (one_end begin vs vs (same_end vs)) in
         let beyond = far_end ps us vs (attributes_end (open_at all) (is_component name) (k0 + 1) ps us n attributes spelled.spelled) behind in
-        let last = far_end zs (end ∷ rest) rest (spaced_end zs (end ∷ rest) apart) (one_end end rest rest (same_end rest)) in
+        let last = far_end zs (end ∷ rest) rest (spaced_end zs (end ∷ rest) white) (one_end end rest rest (same_end rest)) in
         let runs = content_read true n vs (close ∷ zs) i children (flat_rest begin vs flat) (end_no_item name close zs y) (end_no_else name close zs y) content in
         content_leads all (bg.tag all k0 p name ps) (owner.Tag (open_tag k0 p name attributes)) n i i (p ∷ ps) vs (close ∷ zs) rest children (g.tag_node (is_component name) k0 p name attributes children) read runs
-        (tag_ends (open_tag k0 p name attributes) children i close end zs rest y apart z ∙ ap (λ (a : TNode). Some (nx.Done a, i, rest)) (tag_same k0 p name attributes children))
+        (tag_ends (open_tag k0 p name attributes) children i close end zs rest y white z ∙ ap (λ (a : TNode). Some (nx.Done a, i, rest)) (tag_same k0 p name attributes children))
         (behind_first p ps vs beyond) (behind_first close zs rest last) (one_end p ps vs beyond) (one_end close zs rest last)
 
     tag_read : (n : ℕ) (ps rest : List Piece) (i : ℕ) (a : TNode) → FlatPieces ps → Tag (open_at all) n ps rest i a → TagLeads n ps rest i a
@@ -404,14 +404,14 @@ module _ (all : List Piece) where
         done all (bg.line all (back j) n (p ∷ ps)) (p ∷ ps) rest (n + 1) (nd.Content n p.place a)
         (ap (λ (kind : PieceKind). bg.line_by all (back j) n kind p ps) (shown_first (p ∷ ps) rest a h) ∙ shown_complete n p.place (p ∷ ps) rest a flat h)
         (less_one (length rest) (length (p ∷ ps)) (shown_less (p ∷ ps) rest a h)) (shown_end (p ∷ ps) rest a h)
-    line_read _ _ _ _ _ _ flat clear (g.a_group j n i p begin close end ps us vs rest items is spaced x content y apart z) =
+    line_read _ _ _ _ _ _ flat clear (g.a_group j n i p begin close end ps us vs rest items is spaced x content y white z) =
         let behind = far_end ps (begin ∷ us) us (spaced_end ps (begin ∷ us) spaced) (one_end begin us us (same_end us)) in
-        let last = far_end vs (end ∷ rest) rest (spaced_end vs (end ∷ rest) apart) (one_end end rest rest (same_end rest)) in
+        let last = far_end vs (end ∷ rest) rest (spaced_end vs (end ∷ rest) white) (one_end end rest rest (same_end rest)) in
         let runs = content_read true n us (close ∷ vs) i items (flat_end ps us (flat_rest p ps flat) behind) (end_no_item (codes "text") close vs y) (end_no_else (codes "text") close vs y) content in
         content_leads all (bg.line all (back j) n (p ∷ ps)) (owner.Group p.place) n i i (p ∷ ps) us (close ∷ vs) rest items (nd.Group p.place items)
         (ap (λ (kind : PieceKind). bg.line_by all (back j) n kind p ps) is
         ∙ ap (λ (d : Bool). if d then bg.group n p.place ps else bg.tag all n p (codes "text") ps) (same_name (codes "text")) ∙ group_complete n p.place begin ps us spaced x)
-        runs (group_ends p.place items i close end vs rest y apart z) (behind_first p ps us behind) (behind_first close vs rest last) (one_end p ps us behind) (one_end close vs rest last)
+        runs (group_ends p.place items i close end vs rest y white z) (behind_first p ps us behind) (behind_first close vs rest last) (one_end p ps us behind) (one_end close vs rest last)
     line_read _ _ _ _ _ _ flat clear (g.a_line j n i p end ps rest items is content y) =
         content_leads all (bg.line all (back j) n (p ∷ ps)) (owner.Line p.place) n i i (p ∷ ps) ps (end ∷ rest) rest items (nd.Group p.place items) (ap (λ (kind : PieceKind). bg.line_by all (back j) n kind p ps) is)
         (content_read true n ps (end ∷ rest) i items (flat_rest p ps flat) (line_no_item end rest y) (line_no_else end rest y) content) (line_ends p.place items i end rest y)

@@ -74,17 +74,17 @@ module _ (around : Piece → List ℕ) where
 
   attributes_slow : (component : Bool) (n : ℕ) (ps rest : List Piece) (i : ℕ) (found : List Attribute) → SomeAttributes around component n ps rest i found → Slow n ps i rest
   attributes_slow component _ _ _ _ _ (ga.none n rest) = omega arith
-  attributes_slow component _ _ _ _ _ (ga.more n i l space ps us rest a others y h more) =
+  attributes_slow component _ _ _ _ _ (ga.more n i l space ps us rest a others y h next) =
       let one = attribute_slow component n ps us i a h in
-      let rest_slow = attributes_slow component i us rest l others more in
+      let rest_slow = attributes_slow component i us rest l others next in
       omega arith
 
   mutual
     inside_slow : (name : List ℕ) (n : ℕ) (ps rest : List Piece) (i : ℕ) (children : List TNode) → Inside around name n ps rest i children → Slow n ps i rest
     inside_slow _ _ _ _ _ _ (g.without_content name n end rest x) = omega arith
-    inside_slow _ _ _ _ _ _ (g.with_content name n i begin close end ps us rest children x h y apart z) =
+    inside_slow _ _ _ _ _ _ (g.with_content name n i begin close end ps us rest children x h y white z) =
         let one = content_slow true n ps (close ∷ us) i children h in
-        let less = not_longer us (end ∷ rest) (spaced_end us (end ∷ rest) apart) in
+        let less = not_longer us (end ∷ rest) (spaced_end us (end ∷ rest) white) in
         omega arith
 
     tag_slow : (n : ℕ) (ps rest : List Piece) (i : ℕ) (a : TNode) → Tag around n ps rest i a → Slow n ps i rest
@@ -155,10 +155,10 @@ module _ (around : Piece → List ℕ) where
     line_slow _ _ _ _ _ _ (g.a_marked j n i at ps rest node x h) = let one = code_slow true at.place j false n ps rest i node h in omega arith
     line_slow _ _ _ _ _ _ (g.a_tag j n i ps rest node h) = tag_slow n ps rest i node h
     line_slow _ _ _ _ _ _ (g.a_shown j n p ps rest a h) = let less = shown_less (p ∷ ps) rest a h in omega arith
-    line_slow _ _ _ _ _ _ (g.a_group j n i p begin close end ps us vs rest items is spaced x h y apart z) =
+    line_slow _ _ _ _ _ _ (g.a_group j n i p begin close end ps us vs rest items is spaced x h y white z) =
         let one = content_slow true n us (close ∷ vs) i items h in
         let before = not_longer ps (begin ∷ us) (spaced_end ps (begin ∷ us) spaced) in
-        let less = not_longer vs (end ∷ rest) (spaced_end vs (end ∷ rest) apart) in
+        let less = not_longer vs (end ∷ rest) (spaced_end vs (end ∷ rest) white) in
         omega arith
     line_slow _ _ _ _ _ _ (g.a_line j n i p end ps rest items is h y) = let one = content_slow true n ps (end ∷ rest) i items h in omega arith
 

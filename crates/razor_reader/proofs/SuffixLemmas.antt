@@ -87,21 +87,21 @@ label_less _ _ _ (s.label ts c rest a none is h) = codes_less ts c rest
 
 pub labels_end : (ps us : List Piece) (labels : List Label) → SomeLabels ps us labels → Behind ps us
 labels_end _ _ _ (s.one ps rest a h) = label_end ps rest a h
-labels_end _ _ _ (s.more ps us rest a labels h more) = far_end ps us rest (label_end ps us a h) (labels_end us rest labels more)
+labels_end _ _ _ (s.more ps us rest a labels h next) = far_end ps us rest (label_end ps us a h) (labels_end us rest labels next)
 
 pub labels_less : (ps us : List Piece) (labels : List Label) → SomeLabels ps us labels → length us < length ps
 labels_less _ _ _ (s.one ps rest a h) = label_less ps rest a h
-labels_less _ _ _ (s.more ps us rest a labels h more) =
+labels_less _ _ _ (s.more ps us rest a labels h next) =
     let first = label_less ps us a h in
-    let others = labels_less us rest labels more in
+    let others = labels_less us rest labels next in
     omega arith
 
 -- behind attributes and white space
 pub attributes_end : (around : Piece → List ℕ) (component : Bool) (n : ℕ) (ps us : List Piece) (m : ℕ) (found : List Attribute) → SomeAttributes around component n ps us m found → Behind ps us
 attributes_end around component _ _ _ _ _ (attributes.none n rest) = same_end rest
-attributes_end around component _ _ _ _ _ (attributes.more n i m space ps us rest a others s h more) =
+attributes_end around component _ _ _ _ _ (attributes.more n i m space ps us rest a others white h next) =
     let x = behind_attribute around component n ps us i a h in
-    one_end space ps rest (far_end ps us rest (record { pre = x.pre; whole = x.whole }) (attributes_end around component i us rest m others more))
+    one_end space ps rest (far_end ps us rest (record { pre = x.pre; whole = x.whole }) (attributes_end around component i us rest m others next))
 
 pub spaced_end : (ps us : List Piece) → Spaced ps us → Behind ps us
 spaced_end _ _ (g.close ps) = same_end ps

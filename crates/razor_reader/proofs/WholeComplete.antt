@@ -74,7 +74,7 @@ whole_no_else : (around : Piece → List ℕ) (edge : Bool) (n : ℕ) (ps : List
 whole_no_else around _ _ _ _ _ _ (g.last edge n text ps e) = run_no_else ps [] text e refl
 whole_no_else around _ _ _ _ _ _ (g.item edge disposes n i text p ps us vs texts nodes node found e f h more) =
     run_no_else ps (p ∷ us) text e (item_stands around (n + length texts) (p ∷ us) vs i node h).no_else
-whole_no_else around _ _ _ _ _ _ (g.code edge disposes n text at end ps vs ts texts nodes first found e f is block stops more) =
+whole_no_else around _ _ _ _ _ _ (g.code edge disposes n text at end ps vs ts texts nodes first found e f is written stops more) =
     run_no_else ps (at ∷ (codes_of ts ++ end ∷ vs)) text e (no_else_at k.MembersAt at (codes_of ts ++ end ∷ vs) is members_no_else)
 whole_no_else around _ _ _ _ _ _ (g.directive edge disposes n text at end ps vs ts texts nodes found e f is stops more) =
     run_no_else ps (at ∷ (codes_of ts ++ end ∷ vs)) text e (no_else_at k.Directive at (codes_of ts ++ end ∷ vs) is directive_no_else)
@@ -209,13 +209,13 @@ module _ (all : List Piece) where
       (λ left enough. got_same _ _ (d0 || disposes) (d0 || disposes) (m0 ++ found) (m0 ++ found) (((n0 ++ texts) ++ node ∷ []) ++ nodes) (n0 ++ (texts ++ node ∷ nodes)) refl refl refl
       (append_assoc (n0 ++ texts) (node ∷ []) nodes ∙ append_assoc n0 texts (node ∷ nodes))
       (parts_read left d0 m0 ((n0 ++ texts) ++ node ∷ []) (is_edge p.kind) i vs disposes found nodes enough (flat_end (p ∷ us) vs flat_item x.behind) more))
-  parts_read count d0 m0 n0 _ _ _ _ _ _ short flat (g.code edge disposes n text at end ps vs ts texts nodes first found e f is block stops more) =
+  parts_read count d0 m0 n0 _ _ _ _ _ _ short flat (g.code edge disposes n text at end ps vs ts texts nodes first found e f is written stops more) =
       let inner : List Piece = codes_of ts ++ end ∷ vs in
       let flat_at = flat_end ps (at ∷ inner) flat (run_end ps (at ∷ inner) text e) in
       let x = behind_edge text at ps inner vs e (far_end inner (end ∷ vs) vs (codes_end ts (end ∷ vs)) (one_end end vs vs (same_end vs))) in
       one_part count (parts_of d0 m0 n0 n edge) (parts_of d0 (m0 ++ first) (n0 ++ texts) (n + length texts) true) ps vs (d0 || disposes) (m0 ++ (first ++ found)) (n0 ++ (texts ++ nodes)) x.0 short
       (edge_turn d0 m0 n0 n edge text m.MembersAt at ps inner texts e (ap mark_of is) refl f
-      ∙ code_turn (parts_of d0 m0 (n0 ++ texts) (n + length texts) true) ts end vs first (block_complete ts first (flat_front ts (end ∷ vs) (flat_rest at inner flat_at)) block) stops)
+      ∙ code_turn (parts_of d0 m0 (n0 ++ texts) (n + length texts) true) ts end vs first (block_complete ts first (flat_front ts (end ∷ vs) (flat_rest at inner flat_at)) written) stops)
       (λ left enough. got_same _ _ (d0 || disposes) (d0 || disposes) ((m0 ++ first) ++ found) (m0 ++ (first ++ found)) ((n0 ++ texts) ++ nodes) (n0 ++ (texts ++ nodes)) refl refl (append_assoc m0 first found)
       (append_assoc n0 texts nodes) (parts_read left d0 (m0 ++ first) (n0 ++ texts) true (n + length texts) vs disposes found nodes enough (flat_end ps vs flat x.1) more))
   parts_read count d0 m0 n0 _ _ _ _ _ _ short flat (g.directive edge disposes n text at end ps vs ts texts nodes found e f is stops more) =

@@ -1,5 +1,5 @@
 -- How labels and the heads of loops are read.
-use Rattle.std.specs.Prelude.{neg_ℤ, Bool, true, false, ◌||◌, ◌&&◌, not, if◌then◌else◌, ℕ, zero, suc, List, [], ◌∷◌, ◌++◌, length, Option, Some, None}
+use Rattle.std.specs.Prelude.{pos, neg_ℤ, Bool, true, false, ◌||◌, ◌&&◌, not, if◌then◌else◌, ℕ, zero, suc, List, [], ◌∷◌, ◌++◌, length, Option, Some, None}
 use Rattle.cs_ast.specs.declared.expression.Expr.{Expr}
 use Rattle.cs_ast.specs.declared.expression.Label.{Label}
 use Rattle.cs_ast.specs.declared.expression.LabelKind.{LabelKind}
@@ -38,9 +38,9 @@ constant (t.Text x) = Some (lk.Text x)
 constant (t.Word word) = constant_word word
 constant _ = None
 
--- a number behind `-`
+-- a number behind `-`, not below 0
 abbrev pub negative : TokenKind → Option LabelKind
-negative (t.Number n) = Some (lk.Int (neg_ℤ n))
+negative (t.Number (pos n)) = Some (lk.Int (neg_ℤ (pos n)))
 negative _ = None
 
 abbrev pub label : Token → LabelKind → Label

@@ -48,17 +48,12 @@ fn constant(t: &Token) -> Result<LabelKind, Unread>
     }
 }
 
-/// A number behind `-`. Where its opposite is no `i32`, which no text spells, it is given up.
+/// A number behind `-`, not below 0.
 fn negative(t: &Token) -> Result<LabelKind, Unread>
     ensures { Gives (λ kind. kind) result (spec.negative t.now.kind) }
 {
     match &t.kind {
-        TokenKind::Number(number) => {
-            let Some(opposite) = number.checked_neg() else {
-                return Err(Unread::Oom);
-            };
-            Ok(LabelKind::Int(opposite))
-        }
+        TokenKind::Number(number) if *number >= 0 => Ok(LabelKind::Int(-*number)),
         _ => Err(Unread::Syntax(0)),
     }
 }

@@ -1,5 +1,8 @@
 // Laws of the definitions that contracts cite. Each function does nothing: its contract is the law.
-ghost use Rattle.std.specs.Prelude.{◌≡◌, List, ℕ};
+ghost use Rattle.std.specs.Prelude.{◌≡◌, ◌≤◌, ◌+◌, List, ℕ, length};
+ghost use Rattle.razor_token.specs.declared.piece.Piece.{Piece as Part};
+ghost use Rattle.razor_ast.specs.declared.node.TNode.{TNode as Node};
+ghost use Rattle.razor_ast.specs.Nodes.{Item};
 ghost use Rattle.razor_ast.specs.declared.component.Component.{Component as Tree};
 ghost use Rattle.razor_ast.specs.Components.{SpellsFile};
 ghost use Rattle.razor_ast.specs.FileTexts.{text_read};
@@ -8,4 +11,9 @@ ghost use Rattle.razor_reader.specs.Answers.{IsFlat};
 /// A file that nests nowhere too deeply spells at most one component.
 pub fn a_file_spells_one_component()
     ensures { (name : List ℕ) (text : List ℕ) (a : Tree) (b : Tree) → IsFlat (text_read text) → SpellsFile name text a → SpellsFile name text b → a ≡ b }
+{}
+
+/// A part of content takes no more numbers than it has pieces.
+pub fn numbers_rise_no_faster_than_pieces()
+    ensures { (around : Part → List ℕ) (n : ℕ) (ps : List Part) (rest : List Part) (m : ℕ) (node : Node) → Item around n ps rest m node → m + length rest ≤ n + length ps }
 {}

@@ -28,7 +28,7 @@ mod unread;
 mod whole;
 
 pub use fault::ReadFault;
-pub use laws::a_file_spells_one_component;
+pub use laws::{a_file_spells_one_component, numbers_rise_no_faster_than_pieces};
 pub use reader::read;
 
 #[cfg(test)]
