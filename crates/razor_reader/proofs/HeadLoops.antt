@@ -1,12 +1,13 @@
--- Turns of the loop that looks for a semicolon.
-use Rattle.std.proofs.Common.{◌≡◌, ℕ, ◌+◌, ◌<◌, ◌≤◌, List, [], ◌∷◌, ◌++◌, length, take, drop, get_or, refl, sym, ap, ◌∙◌, append_assoc}
+-- Turns of the loop that looks for a semicolon, and the last of some tokens.
+use Rattle.std.proofs.Common.{◌≡◌, ℕ, suc, ◌+◌, ◌-◌, ◌<◌, ◌≤◌, List, [], ◌∷◌, ◌++◌, length, take, drop, get_or, refl, sym, ap, ◌∙◌, append_assoc, arith}
 use Rattle.std.specs.Prelude.{true, false, if◌then◌else◌, Option, Some, None}
+use Rattle.std.specs.List.{slice_get}
 use Rattle.std.proofs.lemmas.List.{take_more, at_drop_more, at_drop_all}
 use Rattle.cs_token.specs.declared.token.Token.{Token}
 use Rattle.razor_reader.specs.declared.mark.Mark.TheVariants as m
 use Rattle.razor_reader.specs.Marks.{is_token}
 use Rattle.razor_reader.specs.Reading.{◌>>=◌}
-use Rattle.razor_reader.specs.HeadReading.{to_semicolon}
+use Rattle.razor_reader.specs.HeadReading.{to_semicolon, without_last, last_of}
 
 abbrev pub Halves : Type 0
 Halves = Option (List Token × List Token)
@@ -49,3 +50,29 @@ semicolon_here ts i u h e f =
 
 pub semicolon_none : (ts : List Token) (i : ℕ) → length ts ≤ i → with_head (take i ts) (to_semicolon (drop i ts)) ≡ None
 semicolon_none ts i h = ap (with_head (take i ts)) (at_drop_all to_semicolon ts i h)
+
+-- the tokens before a last one
+without_whole : (inner : List Token) (last : Token) → without_last (inner ++ last ∷ []) ≡ inner
+without_whole [] last = refl
+without_whole (t ∷ []) last = refl
+without_whole (t ∷ u ∷ inner) last = ap (λ l. t ∷ l) (without_whole (u ∷ inner) last)
+
+pub without_is : (ts inner : List Token) (last : Token) → ts ≡ inner ++ last ∷ [] → inner ≡ without_last ts
+without_is ts inner last e = sym (ap without_last e ∙ without_whole inner last)
+
+-- the last token
+last_more : (a b : Token) (ts : List Token) → slice_get (a ∷ b ∷ ts) (length (a ∷ b ∷ ts) - 1) ≡ slice_get (b ∷ ts) (length (b ∷ ts) - 1)
+last_more a b ts =
+    let first : length (a ∷ b ∷ ts) - 1 ≡ suc (length ts) = omega arith in
+    let second : length ts ≡ length (b ∷ ts) - 1 = omega arith in
+    ap (slice_get (a ∷ b ∷ ts)) first ∙ ap (slice_get (b ∷ ts)) second
+
+pub last_is : (ts : List Token) (u : Token) → slice_get ts (length ts - 1) ≡ Some u → last_of ts ≡ Some u
+last_is [] u e = absurd (cc)
+last_is (a ∷ []) u e = e
+last_is (a ∷ b ∷ ts) u e = last_is (b ∷ ts) u (sym (last_more a b ts) ∙ e)
+
+pub last_none : (ts : List Token) → slice_get ts (length ts - 1) ≡ None → last_of ts ≡ None
+last_none [] e = refl
+last_none (a ∷ []) e = absurd (cc)
+last_none (a ∷ b ∷ ts) e = last_none (b ∷ ts) (sym (last_more a b ts) ∙ e)

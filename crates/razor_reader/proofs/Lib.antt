@@ -8,6 +8,7 @@ pub mod LabelLoops
 pub mod HeadLoops
 pub mod AttributeLoops
 pub mod TurnLoops
+pub mod GoesLemmas
 pub mod FileLemmas
 pub mod ReadLemmas
 pub mod MarkLemmas

@@ -1,7 +1,6 @@
 -- The places of pieces are places in the text.
-use Rattle.std.proofs.Common.{◌≡◌, ◌⊎◌, ℕ, zero, suc, List, [], ◌∷◌, ◌++◌, take, drop, refl, sym, ap, ◌∙◌, subst, append_assoc, inl, inr}
+use Rattle.std.proofs.Common.{◌≡◌, ℕ, zero, suc, List, [], ◌∷◌, ◌++◌, take, drop, refl, sym, ap, ◌∙◌, subst, append_assoc, inl, inr}
 use Rattle.std.specs.Prelude.{Bool, true, false, Option, Some, None, if◌then◌else◌}
-use Rattle.std.specs.List.{slice_get}
 use Rattle.std.proofs.lemmas.Bool.{cases_Bool}
 use Rattle.std.proofs.lemmas.List.{take-append-drop}
 use Rattle.text_core.specs.declared.place.Place.{Place}
@@ -12,7 +11,7 @@ use Rattle.razor_token.specs.Cutting.{Moment, found_at, keeps_line, piece_of, mo
 use Rattle.razor_token.specs.declared.found.Found.{Found}
 use Rattle.razor_token.specs.declared.piece.Piece.{Piece}
 use Rattle.razor_ast.specs.Pieces.{is_counted, counted}
-use Rattle.razor_reader.specs.PieceAnswers.{Kept, IsPlaced}
+use Rattle.razor_reader.specs.PieceAnswers.{Kept, place_or}
 use Rattle.razor_reader.proofs.ListLoops.{no_more}
 use Rattle.razor_reader.proofs.ReadLemmas.{moved}
 
@@ -57,19 +56,21 @@ counted_places text (p ∷ ps) h = pick (is_counted p.kind) (counted_places text
     pick true more = (h.0, more)
     pick false more = more
 
-placed_at : (text : List ℕ) (ps : List Piece) (i : ℕ) (p : Piece) → Placed text ps → slice_get ps i ≡ Some p → IsPlaceIn text p.place
-placed_at text [] i p h e = absurd (cc)
-placed_at text (q ∷ ps) zero p h e = moved {A = Piece} (λ z. IsPlaceIn text z.place) e h.0
-placed_at text (q ∷ ps) (suc i) p h e = placed_at text ps i p h.1 e
+dropped : (text : List ℕ) (n : ℕ) (ps : List Piece) → Placed text ps → Placed text (drop n ps)
+dropped text zero ps h = h
+dropped text (suc n) [] h = tt
+dropped text (suc n) (p ∷ ps) h = dropped text n ps h.1
+
+first_placed : (text : List ℕ) (end : Place) (ps : List Piece) → IsPlaceIn text end → Placed text ps → IsPlaceIn text (place_or end ps)
+first_placed text end [] e h = e
+first_placed text end (p ∷ ps) e h = h.0
 
 end_place : (text : List ℕ) → IsPlaceIn text (place_after text)
 end_place text = record { before = text; rest = []; laid = sym (no_more text); here = refl }
 
 -- the place of a piece that counts, or of the end of the text
-pub placed_in : (text : List ℕ) (kept : List Piece) (end place : Place) → Kept text kept → end ≡ place_after text → IsPlaced kept end place → IsPlaceIn text place
-placed_in text kept end place h e is = elim is [
-  | inl same ↦ subst (λ (q : Place). IsPlaceIn text q) (sym (same ∙ e)) (end_place text)
-  | inr found ↦
-      let all : Placed text kept = subst (λ (l : List Piece). Placed text l) (sym h.counts) (counted_places text h.pieces (cut_places text h.pieces h.cut)) in
-      subst (λ (q : Place). IsPlaceIn text q) (sym found.3) (placed_at text kept found.0 found.1 all found.2)
-]
+pub placed_in : (text : List ℕ) (kept : List Piece) (n : ℕ) (end place : Place) → Kept text kept → end ≡ place_after text → place ≡ place_or end (drop n kept) → IsPlaceIn text place
+placed_in text kept n end place h e is =
+    let all : Placed text kept = subst (λ (l : List Piece). Placed text l) (sym h.counts) (counted_places text h.pieces (cut_places text h.pieces h.cut)) in
+    let there : IsPlaceIn text end = subst (λ (q : Place). IsPlaceIn text q) (sym e) (end_place text) in
+    subst (λ (q : Place). IsPlaceIn text q) (sym is) (first_placed text end (drop n kept) there (dropped text n kept all))

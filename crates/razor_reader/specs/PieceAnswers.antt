@@ -1,6 +1,5 @@
 -- What is known of the pieces of a text once they are cut and measured.
-use Rattle.std.specs.Prelude.{◌≡◌, ◌⊎◌, ℕ, List, Some, None, Result, Ok, Err}
-use Rattle.std.specs.List.{slice_get}
+use Rattle.std.specs.Prelude.{◌≡◌, ℕ, List, [], ◌∷◌, Some, None, Result, Ok, Err}
 use Rattle.std.specs.Global.{Vec}
 use Rattle.text_core.specs.declared.place.Place.{Place}
 use Rattle.razor_token.specs.Answers.{IsPlaceIn, IsUncut}
@@ -31,9 +30,10 @@ Flattened text (Err (f.TooDeep place)) = NestsTooDeep text place
 Flattened text (Err (f.Syntax place)) = IsUncut text place
 Flattened text (Err f.Oom) = Unit {0}
 
--- the place of one of the pieces, or this one
-abbrev pub IsPlaced : List Piece → Place → Place → Type 0
-IsPlaced ps end place = (place ≡ end) ⊎ ((i : ℕ) × (p : Piece) × (slice_get ps i ≡ Some p) × (place ≡ p.place))
+-- the place of the first piece, or this one where there is none
+abbrev pub place_or : Place → List Piece → Place
+place_or end [] = end
+place_or end (p ∷ ps) = p.place
 
 -- the parts that these pieces spell, or that there are none
 abbrev pub Spelled : List ℕ → List Piece → Result Parts ReadFault → Type 0

@@ -40,6 +40,7 @@ fn start(alloc: Global, tokens: &[Token], pieces: &[Piece]) -> Result<Option<Stm
 }
 
 /// The tokens without the last.
+#[tactic(auto, using(crate::proofs::HeadLoops::without_is))]
 fn without_last<'a>(tokens: &'a [Token]) -> &'a [Token]
     ensures { result.now ≡ spec.without_last tokens.now }
 {
@@ -101,6 +102,7 @@ fn step(
 pub type ForParts = (Option<Stmt>, Option<Expr>, Option<Expr>);
 
 /// What stands in the brackets of a `for`.
+#[tactic(auto, using(crate::proofs::HeadLoops::last_is, crate::proofs::HeadLoops::last_none))]
 pub fn for_head(alloc: Global, tokens: &[Token], pieces: &[Piece]) -> Result<ForParts, Unread>
     ensures { Gives (λ a. a) result (spec.for_head tokens.now) }
 {

@@ -1,10 +1,9 @@
 // From the text of a file to its component.
-ghost use Rattle.std.specs.Prelude.{◌≡◌, ◌≤◌, length, encode_utf8_all, IfOk, Some, None};
+ghost use Rattle.std.specs.Prelude.{◌≡◌, ◌-◌, ◌≤◌, length, drop, encode_utf8_all, IfOk, Some, None};
 ghost use Rattle.cs_token.specs.Places.{place_after};
-ghost use Rattle.razor_token.specs.Answers.{IsPlaceIn};
 ghost use Rattle.razor_ast.specs.Pieces.{counted, is_counted};
 ghost use Rattle.razor_reader.specs.Answers.{Answers, SyntaxWithin};
-ghost use Rattle.razor_reader.specs.PieceAnswers.{Flattened, Kept, IsPlaced, Spelled, IsOf};
+ghost use Rattle.razor_reader.specs.PieceAnswers.{Flattened, Kept, place_or, Spelled, IsOf};
 
 use crate::depth::first_too_deep;
 use crate::fault::ReadFault;
@@ -53,15 +52,17 @@ fn end_of(alloc: Global, text: &Txt) -> Result<Place, Oom>
 
 /// The place before the last so many pieces.
 fn place_before(pieces: &[Piece], left: usize, end: Place) -> Place
-    ensures { IsPlaced pieces.now end result }
+    ensures { result ≡ place_or end (drop (length pieces.now - left) pieces.now) }
 {
-    match pieces.get(pieces.len().saturating_sub(left)) {
-        Some(p) => p.place,
+    let (_, rest) = pieces.split_at(pieces.len().saturating_sub(left));
+    match rest.split_first() {
+        Some((p, _)) => p.place,
         None => end,
     }
 }
 
 /// The parts that pieces spell.
+#[tactic(auto, using(crate::proofs::PlaceLemmas::placed_in))]
 fn parts_of(alloc: Global, text: &Txt, kept: &[Piece]) -> Result<Parts, ReadFault>
     requires short { length (encode_utf8_all text.now) ≤ 1048576 }
     requires kept { Kept text.now kept.now }
@@ -80,6 +81,7 @@ fn parts_of(alloc: Global, text: &Txt, kept: &[Piece]) -> Result<Parts, ReadFaul
 }
 
 /// The pieces of a text that nest nowhere too deeply.
+#[tactic(auto, using(crate::proofs::AnswerLemmas::kept_of, crate::proofs::AnswerLemmas::deep_of))]
 fn flat_pieces(alloc: Global, text: &Txt) -> Result<Vec<Piece>, ReadFault>
     requires { length (encode_utf8_all text.now) ≤ 1048576 }
     ensures { Flattened text.now result }
@@ -115,6 +117,7 @@ fn component(alloc: Global, name: &Txt, parts: Parts) -> Result<Component, Oom>
 }
 
 /// Reads the text of a file of this name as the component that it spells.
+#[tactic(auto, using(crate::proofs::ReadAnswers::short_read, crate::proofs::ReadAnswers::spelled_there, crate::proofs::ReadAnswers::deep_there, crate::proofs::ReadAnswers::uncut_there, crate::proofs::ReadAnswers::unspelled_there))]
 pub fn read(alloc: Global, name: &Txt, text: &Txt) -> Result<Component, ReadFault>
     ensures answer { Answers name.now text.now result }
     ensures place { SyntaxWithin text.now result }
