@@ -30,12 +30,3 @@ mod whole;
 pub use fault::ReadFault;
 pub use laws::{a_file_spells_one_component, numbers_rise_no_faster_than_pieces};
 pub use reader::read;
-
-#[cfg(test)]
-mod code_tests;
-#[cfg(test)]
-mod fault_tests;
-#[cfg(test)]
-mod tests;
-#[cfg(test)]
-mod tests_outline;
