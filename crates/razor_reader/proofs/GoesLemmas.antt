@@ -49,3 +49,8 @@ pub inside_goes : (all : List Piece) (old new : List Frame) (f : Frame) (wanted 
 inside_goes all old new f wanted n ps x result e g h =
     subst (λ (l : List Frame). GivesTurn l result (turn all (reverse old) (nx.Inside f wanted) n ps)) (sym (ap reverse e ∙ turned_back old f))
     (goes_over (f ∷ reverse old) x result (begin all wanted n ps) g h)
+
+-- the same of what is known to be this
+pub named_goes : (all : List Piece) (frames later : List Frame) (next now : Next) (n : ℕ) (ps : List Piece) (result : Went) → next ≡ now → GivesTurn later result (turn all frames now n ps) →
+    GivesTurn later result (turn all frames next n ps)
+named_goes all frames later next now n ps result e h = subst (λ (x : Next). GivesTurn later result (turn all frames x n ps)) (sym e) h

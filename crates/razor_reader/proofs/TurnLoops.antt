@@ -1,5 +1,5 @@
 -- Turns of the loops that read items and whole files.
-use Rattle.std.proofs.Common.{◌≡◌, ℕ, zero, suc, ◌-◌, ◌<◌, List, [], ◌∷◌, refl, ap, ◌∙◌, arith}
+use Rattle.std.proofs.Common.{◌≡◌, ℕ, zero, suc, ◌-◌, ◌<◌, List, [], ◌∷◌, length, refl, ap, ◌∙◌, arith}
 use Rattle.std.specs.Prelude.{Some, None}
 use Rattle.razor_token.specs.declared.piece.Piece.{Piece}
 use Rattle.razor_ast.specs.declared.node.TNode.{TNode}
@@ -61,3 +61,20 @@ module _ (all : List Piece) where
 
   pub whole_fail : (n : ℕ) (parts : Parts) (p : Piece) (ps : List Piece) → 0 < n → w.turn all parts (p ∷ ps) ≡ None → w.parts_in all n parts (p ∷ ps) ≡ None
   whole_fail n parts p ps h e = whole_law n parts p ps h ∙ ap (λ o. o >>= λ x. w.parts_in all (n - 1) x.0 x.1) e
+
+  -- the same, where only the number of pieces is known
+  pub whole_done : (n : ℕ) (parts : Parts) (ps : List Piece) → length ps ≡ 0 → w.parts_in all n parts ps ≡ Some parts
+  whole_done n parts [] h = whole_end n parts
+  whole_done n parts (p ∷ ps) h = absurd (omega arith)
+
+  pub whole_left : (n : ℕ) (parts : Parts) (ps : List Piece) → n ≡ 0 → 0 < length ps → w.parts_in all n parts ps ≡ None
+  whole_left n parts [] h k = absurd (omega arith)
+  whole_left n parts (p ∷ ps) h k = whole_none n parts p ps h
+
+  pub whole_step : (n : ℕ) (parts more : Parts) (ps us : List Piece) → 0 < n → 0 < length ps → w.turn all parts ps ≡ Some (more, us) → w.parts_in all n parts ps ≡ w.parts_in all (n - 1) more us
+  whole_step n parts more [] us h k e = absurd (omega arith)
+  whole_step n parts more (p ∷ ps) us h k e = whole_turn n parts more p ps us h e
+
+  pub whole_stop : (n : ℕ) (parts : Parts) (ps : List Piece) → 0 < n → 0 < length ps → w.turn all parts ps ≡ None → w.parts_in all n parts ps ≡ None
+  whole_stop n parts [] h k e = absurd (omega arith)
+  whole_stop n parts (p ∷ ps) h k e = whole_fail n parts p ps h e

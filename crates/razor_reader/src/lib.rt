@@ -33,12 +33,3 @@ pub use laws::{
     places_are_no_further_than_the_text_is_long,
 };
 pub use reader::read;
-
-#[cfg(test)]
-mod code_tests;
-#[cfg(test)]
-mod fault_tests;
-#[cfg(test)]
-mod tests;
-#[cfg(test)]
-mod tests_outline;

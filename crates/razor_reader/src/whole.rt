@@ -111,7 +111,7 @@ fn turn<'a>(alloc: Global, all: &[Piece], parts: Parts, pieces: &'a [Piece]) -> 
 }
 
 /// The parts of a file.
-#[tactic(auto, unfolding(crate::specs::WholeReading::parts), using(crate::proofs::TurnLoops::whole_end, crate::proofs::TurnLoops::whole_none, crate::proofs::TurnLoops::whole_turn, crate::proofs::TurnLoops::whole_fail))]
+#[tactic(auto, unfolding(crate::specs::WholeReading::parts), using(crate::proofs::TurnLoops::whole_done, crate::proofs::TurnLoops::whole_left, crate::proofs::TurnLoops::whole_step, crate::proofs::TurnLoops::whole_stop))]
 pub fn whole_parts(alloc: Global, all: &[Piece]) -> Result<Parts, Unread>
     ensures { Gives (λ x. x) result (spec.parts all.now) }
 {

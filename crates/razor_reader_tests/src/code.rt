@@ -1,5 +1,5 @@
 // Code with markup, and whole files.
-use crate::tests::compare;
+use crate::support::compare;
 use std::test::Fail;
 
 #[test]

@@ -1,5 +1,5 @@
 // Files that spell nothing, that nest too deeply, and that are too long.
-use crate::tests::{compare, outlined};
+use crate::support::{compare, outlined};
 use std::alloc::Global;
 use std::test::Fail;
 
