@@ -8,7 +8,6 @@ use Rattle.cs_token.specs.Places.{place_after}
 use Rattle.cs_token.specs.Walks.{Walk, stay, go}
 use Rattle.razor_token.specs.Answers.{IsPlaceIn}
 use Rattle.razor_token.specs.Cutting.{Moment, found_at, keeps_line, piece_of, moment_behind, stepped, next, Step, beginning, ending, Cuts}
-use Rattle.razor_token.specs.declared.found.Found.{Found}
 use Rattle.razor_token.specs.declared.piece.Piece.{Piece}
 use Rattle.razor_ast.specs.Pieces.{is_counted, counted}
 use Rattle.razor_reader.specs.PieceAnswers.{Kept, place_or}
@@ -24,11 +23,11 @@ Placed text (p ∷ ps) = IsPlaceIn text p.place × Placed text ps
 abbrev Keeps : Moment → Piece × Moment → Type 0
 Keeps m x = (x.0.place ≡ place_after m.before) × (x.1.before ++ x.1.rest ≡ m.before ++ m.rest)
 
-found_keeps : (m : Moment) (found : Found) → Keeps m (piece_of m found, moment_behind m found)
+found_keeps : (m : Moment) (found : _) → Keeps m (piece_of m found, moment_behind m found)
 found_keeps m found =
     (refl, append_assoc m.before (take found.count m.rest) (drop found.count m.rest) ∙ ap (λ (l : List ℕ). m.before ++ l) (take-append-drop found.count m.rest))
 
-step_keeps : (m : Moment) (x : Piece × Moment) (o : Option Found) → stepped m o ≡ Some x → Keeps m x
+step_keeps : (m : Moment) (x : Piece × Moment) (o : Option _) → stepped m o ≡ Some x → Keeps m x
 step_keeps m x None e = absurd (cc)
 step_keeps m x (Some found) e = elim (cases_Bool (keeps_line m.line (take found.count m.rest))) [
   | inl keeps ↦ let given = rw keeps at e in moved {A = Piece × Moment} (Keeps m) given (found_keeps m found)
