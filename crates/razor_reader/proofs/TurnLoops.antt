@@ -1,14 +1,16 @@
 -- Turns of the loops that read items and whole files.
-use Rattle.std.proofs.Common.{◌≡◌, ℕ, zero, suc, ◌-◌, ◌<◌, List, [], ◌∷◌, length, refl, ap, ◌∙◌, arith}
-use Rattle.std.specs.Prelude.{Some, None}
+use Rattle.std.proofs.Common.{◌≡◌, ℕ, zero, suc, ◌-◌, ◌<◌, List, [], ◌∷◌, length, reverse, refl, sym, ap, ◌∙◌, arith}
+use Rattle.std.specs.Prelude.{◌==◌, true, Some, None}
 use Rattle.razor_token.specs.declared.piece.Piece.{Piece}
 use Rattle.razor_ast.specs.declared.node.TNode.{TNode}
 use Rattle.razor_reader.specs.declared.frame.Frame.{Frame}
 use Rattle.razor_reader.specs.declared.frame.Next.{Next}
+use Rattle.razor_reader.specs.declared.frame.Wanted.TheVariants as want
 use Rattle.razor_reader.specs.declared.item.Turn.TheVariants as t
 use Rattle.razor_reader.specs.declared.whole.Parts.{Parts}
 use Rattle.razor_reader.specs.Reading.{Numbered, ◌>>=◌}
-use Rattle.razor_reader.specs.ItemReading.{Turned, turn, turns}
+use Rattle.razor_reader.specs.BeginReading.{begin}
+use Rattle.razor_reader.specs.ItemReading.{Turned, turn, turns, turns_for, item_first}
 use Rattle.razor_reader.specs.WholeReading as w
 use Rattle.razor_reader.proofs.ListLoops.{less}
 
@@ -78,3 +80,16 @@ module _ (all : List Piece) where
   pub whole_stop : (n : ℕ) (parts : Parts) (ps : List Piece) → 0 < n → 0 < length ps → w.turn all parts ps ≡ None → w.parts_in all n parts ps ≡ None
   whole_stop n parts [] h k e = absurd (omega arith)
   whole_stop n parts (p ∷ ps) h k e = whole_fail n parts p ps h e
+
+  pub whole_empty : (n : ℕ) (parts : Parts) (ps : List Piece) → (length ps == 0) ≡ true → w.parts_in all n parts ps ≡ Some parts
+  whole_empty n parts [] e = whole_end n parts
+  whole_empty n parts (p ∷ ps) e = absurd (cc)
+
+-- how an item begins
+pub item_start : (all : List Piece) (n m left : ℕ) (ps rest : List Piece) (next : Next) (frames : List Frame) → begin all want.Item n ps ≡ Some (next, m, rest) → left ≡ turns_for ps → frames ≡ [] →
+    item_first all n ps ≡ turns all left (reverse frames) next m rest
+unfolding item_first
+item_start all n m left ps rest next frames e i k =
+    ap (λ o. o >>= λ x. turns all (turns_for ps) [] x.0 x.1 x.2) e
+    ∙ ap (λ l. turns all l [] next m rest) (sym i)
+    ∙ ap (λ (l : List Frame). turns all left (reverse l) next m rest) (sym k)

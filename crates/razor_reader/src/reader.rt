@@ -47,7 +47,8 @@ fn end_of(alloc: Global, text: &Txt) -> Result<Place, Oom>
     requires { length (encode_utf8_all text.now) ≤ 1048576 }
     ensures { IfOk result (λ place. place ≡ place_after text.now) }
 {
-    Ok(behind(first_place(), &text.to_chars(alloc)?))
+    let characters = text.to_chars(alloc)?;
+    Ok(behind(first_place(), &characters))
 }
 
 /// The place before the last so many pieces.
