@@ -3,11 +3,15 @@ use Rattle.std.proofs.Common.{◌≡◌, ℕ, suc, ◌+◌, ◌-◌, ◌<◌, �
 use Rattle.std.specs.Prelude.{true, false, if◌then◌else◌, Option, Some, None}
 use Rattle.std.specs.List.{slice_get}
 use Rattle.std.proofs.lemmas.List.{take_more, at_drop_more, at_drop_all}
+use Rattle.cs_ast.specs.declared.expression.Expr.{Expr}
+use Rattle.cs_ast.specs.declared.expression.Stmt.{Stmt}
 use Rattle.cs_token.specs.declared.token.Token.{Token}
 use Rattle.razor_reader.specs.declared.mark.Mark.TheVariants as m
 use Rattle.razor_reader.specs.Marks.{is_token}
-use Rattle.razor_reader.specs.Reading.{◌>>=◌}
-use Rattle.razor_reader.specs.HeadReading.{to_semicolon, without_last, last_of}
+use Rattle.razor_reader.specs.declared.unread.Unread.{Unread}
+use Rattle.razor_reader.specs.declared.unread.Unread.TheVariants as un
+use Rattle.razor_reader.specs.Reading.{◌>>=◌, Fails}
+use Rattle.razor_reader.specs.HeadReading.{to_semicolon, without_last, last_of, start, condition, step, for_head}
 
 abbrev pub Halves : Type 0
 Halves = Option (List Token × List Token)
@@ -76,3 +80,18 @@ pub last_none : (ts : List Token) → slice_get ts (length ts - 1) ≡ None → 
 last_none [] e = refl
 last_none (a ∷ []) e = absurd (cc)
 last_none (a ∷ b ∷ ts) e = last_none (b ∷ ts) (sym (last_more a b ts) ∙ e)
+
+-- what stands in the brackets of a `for`, up to its step
+pub for_step : (ts first rest second third : List Token) (semicolon : Token) (a : Option Stmt) (b : Option Expr) → to_semicolon ts ≡ Some (first, rest) → to_semicolon rest ≡ Some (second, third) →
+    last_of second ≡ Some semicolon → start first ≡ Some a → condition second ≡ Some b → for_head ts ≡ (step third semicolon >>= λ next. Some (a, b, next))
+for_step ts first rest second third semicolon a b e f g h i =
+    ap (λ (o : Halves). o >>= λ x. (to_semicolon x.1 >>= λ y. (last_of y.0 >>= λ u. (start x.0 >>= λ begin. (condition y.0 >>= λ holds. (step y.1 u >>= λ next. Some (begin, holds, next))))))) e
+    ∙ ap (λ (o : Halves). o >>= λ y. (last_of y.0 >>= λ u. (start first >>= λ begin. (condition y.0 >>= λ holds. (step y.1 u >>= λ next. Some (begin, holds, next)))))) f
+    ∙ ap (λ (o : Option Token). o >>= λ u. (start first >>= λ begin. (condition second >>= λ holds. (step third u >>= λ next. Some (begin, holds, next))))) g
+    ∙ ap (λ (o : Option (Option Stmt)). o >>= λ begin. (condition second >>= λ holds. (step third semicolon >>= λ next. Some (begin, holds, next)))) h
+    ∙ ap (λ (o : Option (Option Expr)). o >>= λ holds. (step third semicolon >>= λ next. Some (a, holds, next))) i
+
+-- a part that fails for a cause, and a whole that fails with it
+pub fails_on : {A B : Type 0} (e : Unread) (part : Option A) (whole : Option B) → (part ≡ None → whole ≡ None) → Fails e part → Fails e whole
+fails_on un.Oom part whole f h = tt
+fails_on (un.Syntax left) part whole f h = f h

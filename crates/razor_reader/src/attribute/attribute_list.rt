@@ -1,5 +1,6 @@
 // Reads attributes.
 ghost use Rattle.std.specs.Prelude.{◌≡◌, Some, None, MatchOption};
+ghost use Rattle.std.specs.List.{list_any};
 ghost use Rattle.razor_ast.specs.Attributes as grammar;
 ghost use Rattle.razor_reader.specs.AttributeReading as spec;
 ghost use Rattle.razor_reader.specs.Reading.{Gives};
@@ -74,7 +75,10 @@ fn context<'a>(alloc: Global, number: u32, pieces: &'a [Piece]) -> Meaning<'a>
     let next = next_number(number)?;
     let inner = after(pieces, Mark::ValueStart)?;
     let (text, rest) = text_value(alloc, inner)?;
-    if !is_name_text(alloc, &text)? {
+    let Ok(is_name) = is_name_text(alloc, &text) else {
+        return Err(Unread::Oom);
+    };
+    if !is_name {
         return Err(Unread::Syntax(inner.len()));
     }
     let name = Ident {
@@ -90,7 +94,9 @@ fn text<'a>(alloc: Global, all: &[Piece], start: u32, inner: &'a [Piece]) -> Fro
 {
     let place = place_first(inner);
     let (text, rest) = text_value(alloc, inner)?;
-    let expression = text_expression(alloc, all, start, place, &text)?;
+    let Ok(expression) = text_expression(alloc, all, start, place, &text) else {
+        return Err(Unread::Oom);
+    };
     let given = Given::Text {
         place,
         text,
@@ -260,11 +266,23 @@ fn is_bind_event(a: &Attribute) -> bool
     }
 }
 
+fn has_bind(attributes: &[Attribute]) -> bool
+    ensures { result ≡ list_any (λ a. grammar.is_bind a.kind) attributes.now }
+{
+    attributes.iter().any(|a| is_bind(a))
+}
+
+fn has_bind_event(attributes: &[Attribute]) -> bool
+    ensures { result ≡ list_any (λ a. grammar.is_bind_event a.kind) attributes.now }
+{
+    attributes.iter().any(|a| is_bind_event(a))
+}
+
 /// Whether `@bind` is there where `@bind:event` is.
 fn is_bound(attributes: &[Attribute]) -> bool
     ensures { result ≡ grammar.is_bound attributes.now }
 {
-    !attributes.iter().any(is_bind_event) || attributes.iter().any(is_bind)
+    !has_bind_event(attributes) || has_bind(attributes)
 }
 
 /// The attributes of a tag.
