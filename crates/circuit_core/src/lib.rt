@@ -17,6 +17,3 @@ mod rules;
 pub use ack_done::AckDone;
 pub use circuit::{Circuit, Replies};
 pub use laws::{a_run_keeps_the_window_and_the_history, a_run_leaves_no_batch_due};
-
-#[cfg(test)]
-mod tests;

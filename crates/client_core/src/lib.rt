@@ -11,6 +11,3 @@ mod sending;
 
 pub use client::Client;
 pub use sending::Ups;
-
-#[cfg(test)]
-mod tests;

@@ -21,12 +21,12 @@ use Rattle.cs_rules.specs.declared.checked.ExprType.{ExprType}
 use Rattle.cs_rules.specs.declared.checked.ExprType.TheVariants.{Of, Null, Markup}
 use Rattle.cs_rules.specs.declared.rule.Rule.TheVariants.{UnknownName}
 use Rattle.cs_rules.specs.Judged.{Judged, fine, breaks, mismatch, known, each, ◌>>=◌}
-use Rattle.cs_rules.specs.Types.{fits, wants, fitting, checked}
-use Rattle.cs_rules.specs.Names.{meant, variable_of}
-use Rattle.cs_rules.specs.Written.{Declared, record_named}
+use Rattle.cs_rules.specs.Types.{fits, wants, fitting, checked, common_type, drops_argument, fits_type, may_be_null}
+use Rattle.cs_rules.specs.Names.{meant, variable_of, meant_by}
+use Rattle.cs_rules.specs.Written.{Declared, record_named, is_comparable}
 use Rattle.cs_rules.specs.Library.{part_from}
-use Rattle.cs_rules.specs.Operators.{binary_type, operator_of}
-use Rattle.cs_rules.specs.Expressions.{Value, Given, all_fit, record_of, replacing, with_parts, with_of, assigned, assign, step}
+use Rattle.cs_rules.specs.Operators.{binary_type, operator_of, are_compared, comparison_type, either_type, given_type, is_nullable, is_shown, is_text, may_compare, plain_type, shown, sum_type, taken_type}
+use Rattle.cs_rules.specs.Expressions.{Value, Given, all_fit, record_of, replacing, with_parts, with_of, assigned, assign, step, Replacing, Replaced, replacements, of_no_record, with_replaced}
 use Rattle.cs_typing.specs.Operators.{Shows, Combines, AssignTakes}
 use Rattle.cs_typing.specs.Operators as op
 use Rattle.cs_typing.specs.Expressions.{Surroundings, CodeHas, ReplacementsHave, VariableHas}
@@ -46,12 +46,14 @@ pub data AllGiven : List Given → Type 0 where
   one_given : (one : Given) (others : List Given) → ValueSound one.value → AllGiven others → AllGiven (one ∷ others)
 
 -- new values for parts of a record with parts of these types
-data AllReplaced (at : Surroundings) (locals : List CsType) (parts : List CsType) : List ((ℕ × CsType) × Checked) → Type 0 where
-  none_replaced : AllReplaced at locals parts []
-  one_replaced : (one : (ℕ × CsType) × Checked) (others : List ((ℕ × CsType) × Checked)) → slice_get parts one.0.0 ≡ Some one.0.1 → ValueFits at locals one.1 → AllReplaced at locals parts others → AllReplaced at locals parts (one ∷ others)
+data AllReplaced (at : Surroundings) (locals : List CsType) (parts : List CsType) : Replaced → Type 0 where
+  none_replaced : AllReplaced at locals parts (record { positions = []; wanted = []; values = [] })
+  one_replaced : (one : Replacing) (more : Replaced) → slice_get parts one.number ≡ Some one.wanted → ValueFits at locals one.value → AllReplaced at locals parts more
+      → AllReplaced at locals parts (record { positions = one.number ∷ more.positions; wanted = one.wanted ∷ more.wanted; values = one.value ∷ more.values })
 
 -- a record type with its declaration
 record_form : (records : List Member) (type : CsType) (found : Declared) → Form type → record_of records (Of type) ≡ Some found → (name : List ℕ) × (type ≡ t.Rec name) × (record_named records name ≡ Some found)
+unfolding record_of
 record_form records type found (shape.record_of name) e = (name, refl, e)
 record_form records type found int e = absurd (cc)
 record_form records type found bool e = absurd (cc)
@@ -64,59 +66,79 @@ record_form records type found args e = absurd (cc)
 record_form records type found nothing e = absurd (cc)
 
 record_found : (records : List Member) (given : ExprType) (found : Declared) → record_of records given ≡ Some found → (name : List ℕ) × (given ≡ Of (t.Rec name)) × (record_named records name ≡ Some found)
+unfolding record_of
 record_found records (Of type) found e = let k = record_form records type found (form type) e in (k.0, ap (λ z. Of z) k.1, k.2)
 record_found records Null found e = absurd (cc)
 record_found records Markup found e = absurd (cc)
 
 module _ (at : Surroundings) (locals : List CsType) (s : Scope) (fit : ScopeFits at locals s) where
-  one_part : (found : Declared) (given : Given) → ValueSound given.value → IfFine (λ one. (slice_get (record_type found).parts one.0.0 ≡ Some one.0.1) × ValueFits at locals one.1) (replacing s found given)
+  abbrev Placed : Declared → Replacing → Type 0
+  Placed found one = (slice_get (record_type found).parts one.number ≡ Some one.wanted) × ValueFits at locals one.value
+
+  one_part : (found : Declared) (given : Given) → ValueSound given.value → IfFine (Placed found) (replacing s found given)
+  unfolding replacing
   one_part found given h =
-      then_fine (λ part. part_from 0 given.name.name found.parts ≡ Some part) (λ one. (slice_get (record_type found).parts one.0.0 ≡ Some one.0.1) × ValueFits at locals one.1) (known UnknownName given.name.place (part_from 0 given.name.name found.parts)) (λ part. given.value s >>= λ x. fine (part, x))
+      then_fine (λ part. part_from 0 given.name.name found.parts ≡ Some part) (Placed found) (known UnknownName given.name.place (part_from 0 given.name.name found.parts))
+      (λ part. given.value s >>= λ x. fine (record { number = part.0; wanted = part.1; value = x }))
       (known_fine UnknownName given.name.place (part_from 0 given.name.name found.parts))
-      (λ part e. then_fine (λ x. ValueFits at locals x) (λ one. (slice_get (record_type found).parts one.0.0 ≡ Some one.0.1) × ValueFits at locals one.1) (given.value s) (λ x. fine (part, x)) (h at locals s fit)
+      (λ part e. then_fine (λ x. ValueFits at locals x) (Placed found) (given.value s) (λ x. fine (record { number = part.0; wanted = part.1; value = x })) (h at locals s fit)
       (λ x hx. (part_in given.name.name found.parts part e, hx)))
 
-  each_part : (found : Declared) (parts : List Given) → AllGiven parts → IfFine (λ ones. AllReplaced at locals (record_type found).parts ones) (each (replacing s found) parts)
+  each_part : (found : Declared) (parts : List Given) → AllGiven parts → IfFine (λ all. AllReplaced at locals (record_type found).parts all) (replacements s found parts)
   each_part found parts none_given = none_replaced
   each_part found parts (one_given one others h hs) =
-      then_fine (λ y. (slice_get (record_type found).parts y.0.0 ≡ Some y.0.1) × ValueFits at locals y.1) (λ ones. AllReplaced at locals (record_type found).parts ones) (replacing s found one) (λ y. each (replacing s found) others >>= λ ys. fine (y ∷ ys)) (one_part found one h)
-      (λ y hy. then_fine (λ ys. AllReplaced at locals (record_type found).parts ys) (λ ones. AllReplaced at locals (record_type found).parts ones) (each (replacing s found) others) (λ ys. fine (y ∷ ys)) (each_part found others hs)
+      then_fine (Placed found) (λ all. AllReplaced at locals (record_type found).parts all) (replacing s found one)
+      (λ y. replacements s found others >>= λ ys. fine (record { positions = y.number ∷ ys.positions; wanted = y.wanted ∷ ys.wanted; values = y.value ∷ ys.values })) (one_part found one h)
+      (λ y hy. then_fine (λ ys. AllReplaced at locals (record_type found).parts ys) (λ all. AllReplaced at locals (record_type found).parts all) (replacements s found others)
+      (λ ys. fine (record { positions = y.number ∷ ys.positions; wanted = y.wanted ∷ ys.wanted; values = y.value ∷ ys.values })) (each_part found others hs)
       (λ ys hys. one_replaced y ys hy.0 hy.1 hys))
 
-  all_replaced : (parts : List CsType) (ones : List ((ℕ × CsType) × Checked)) → AllReplaced at locals parts ones
-      → IfFine (λ u. ReplacementsHave at locals parts (map (λ (one : (ℕ × CsType) × Checked). one.0.0) ones) (map (λ (one : (ℕ × CsType) × Checked). one.1.code) ones)) (all_fit (map (λ (one : (ℕ × CsType) × Checked). one.0.1) ones) (map (λ (one : (ℕ × CsType) × Checked). one.1) ones))
-  all_replaced parts ones none_replaced = code.unchanged parts
-  all_replaced parts ones (one_replaced one others e h hs) =
-      then_fine (λ u. fits one.1.expr_type one.0.1 ≡ true) (λ u. ReplacementsHave at locals parts (map (λ (it : (ℕ × CsType) × Checked). it.0.0) (one ∷ others)) (map (λ (it : (ℕ × CsType) × Checked). it.1.code) (one ∷ others)))
-      (wants one.0.1 one.1.place one.1.expr_type) (λ u. all_fit (map (λ (it : (ℕ × CsType) × Checked). it.0.1) others) (map (λ (it : (ℕ × CsType) × Checked). it.1) others)) (wants_fine one.0.1 one.1.place one.1.expr_type)
-      (λ u f. weaker_fine (λ v. ReplacementsHave at locals parts (map (λ (it : (ℕ × CsType) × Checked). it.0.0) others) (map (λ (it : (ℕ × CsType) × Checked). it.1.code) others))
-      (λ v. ReplacementsHave at locals parts (map (λ (it : (ℕ × CsType) × Checked). it.0.0) (one ∷ others)) (map (λ (it : (ℕ × CsType) × Checked). it.1.code) (one ∷ others)))
-      (all_fit (map (λ (it : (ℕ × CsType) × Checked). it.0.1) others) (map (λ (it : (ℕ × CsType) × Checked). it.1) others)) (all_replaced parts others hs)
-      (λ v k. code.replaced parts one.0.1 one.0.0 (map (λ (it : (ℕ × CsType) × Checked). it.0.0) others) one.1.code (map (λ (it : (ℕ × CsType) × Checked). it.1.code) others) e (fits_has at locals one.1.expr_type one.0.1 one.1.code f h) k))
+  -- the code of new values
+  abbrev coded : List Checked → List Code
+  coded = map (λ (y : Checked). y.code)
 
-  never_fine : {A B : Type 0} (P : B → Type 0) (j : Judged A) (place : Place) → IfFine P (j >>= λ x. mismatch place)
-  never_fine P (fine x) place = tt
-  never_fine P (breaks rule p) place = tt
+  all_replaced : (parts : List CsType) (all : Replaced) → AllReplaced at locals parts all → IfFine (λ u. ReplacementsHave at locals parts all.positions (coded all.values)) (all_fit all.wanted all.values)
+  all_replaced parts all none_replaced = code.unchanged parts
+  all_replaced parts all (one_replaced one more e h hs) =
+      then_fine (λ u. fits one.value.expr_type one.wanted ≡ true) (λ u. ReplacementsHave at locals parts (one.number ∷ more.positions) (coded (one.value ∷ more.values)))
+      (wants one.wanted one.value.place one.value.expr_type) (λ u. all_fit more.wanted more.values) (wants_fine one.wanted one.value.place one.value.expr_type)
+      (λ u f. weaker_fine (λ v. ReplacementsHave at locals parts more.positions (coded more.values)) (λ v. ReplacementsHave at locals parts (one.number ∷ more.positions) (coded (one.value ∷ more.values)))
+      (all_fit more.wanted more.values) (all_replaced parts more hs)
+      (λ v k. code.replaced parts one.wanted one.number more.positions one.value.code (coded more.values) e (fits_has at locals one.value.expr_type one.wanted one.value.code f h) k))
+
+  some_fine : {A : Type 0} (j : Judged A) → IfFine (λ x. Unit {0}) j
+  some_fine (fine x) = tt
+  some_fine (breaks rule place) = tt
+
+  never_fine : (P : Checked → Type 0) (parts : List Given) (place : Place) → IfFine P (of_no_record parts place s)
+  never_fine P [] place = tt
+  never_fine P (given ∷ others) place =
+      then_fine (λ x. Unit {0}) P (given.value s) (λ x. of_no_record others place s) (some_fine (given.value s)) (λ x u. never_fine P others place)
+
+  changed_fine : (found : Declared) (x : Checked) (place : Place) (all : Replaced) → record_of s.records x.expr_type ≡ Some found → ValueFits at locals x → AllReplaced at locals (record_type found).parts all
+      → IfFine (λ y. ValueFits at locals y) (with_replaced x place all)
+  unfolding with_replaced
+  changed_fine found x place all e h r =
+      let k = record_found s.records x.expr_type found e in
+      then_fine (λ u. ReplacementsHave at locals (record_type found).parts all.positions (coded all.values)) (λ y. ValueFits at locals y) (all_fit all.wanted all.values)
+      (λ u. fine (record { place = place; code = c.With x.code all.positions (coded all.values); expr_type = x.expr_type })) (all_replaced (record_type found).parts all r)
+      (λ u l. subst (λ z. HasType at locals z (c.With x.code all.positions (coded all.values))) (sym k.1)
+      (code.changed k.0 (record_type found) x.code all.positions (coded all.values) (fit.records k.0 found k.2) (subst (λ z. HasType at locals z x.code) k.1 h) l))
 
   parts_fine : (o : Option Declared) (parts : List Given) (x : Checked) (place : Place) → record_of s.records x.expr_type ≡ o → AllGiven parts → ValueFits at locals x → IfFine (λ y. ValueFits at locals y) (with_parts o parts x place s)
-  parts_fine None parts x place e hs h = never_fine (λ y. ValueFits at locals y) (each (λ given. given.value s) parts) x.place
+  parts_fine None parts x place e hs h = never_fine (λ y. ValueFits at locals y) parts x.place
   parts_fine (Some found) parts x place e hs h =
-      let k = record_found s.records x.expr_type found e in
-      then_fine (λ ones. AllReplaced at locals (record_type found).parts ones) (λ y. ValueFits at locals y) (each (replacing s found) parts) (λ ones. all_fit (map (λ (one : (ℕ × CsType) × Checked). one.0.1) ones) (map (λ (one : (ℕ × CsType) × Checked). one.1) ones) >>= λ u. fine (record { place = place; code = c.With x.code (map (λ (one : (ℕ × CsType) × Checked). one.0.0) ones) (map (λ (one : (ℕ × CsType) × Checked). one.1.code) ones); expr_type = x.expr_type }))
-      (each_part found parts hs)
-      (λ ones r. then_fine (λ u. ReplacementsHave at locals (record_type found).parts (map (λ (one : (ℕ × CsType) × Checked). one.0.0) ones) (map (λ (one : (ℕ × CsType) × Checked). one.1.code) ones)) (λ y. ValueFits at locals y)
-      (all_fit (map (λ (one : (ℕ × CsType) × Checked). one.0.1) ones) (map (λ (one : (ℕ × CsType) × Checked). one.1) ones)) (λ u. fine (record { place = place; code = c.With x.code (map (λ (one : (ℕ × CsType) × Checked). one.0.0) ones) (map (λ (one : (ℕ × CsType) × Checked). one.1.code) ones); expr_type = x.expr_type }))
-      (all_replaced (record_type found).parts ones r)
-      (λ u l. subst (λ z. HasType at locals z (c.With x.code (map (λ (one : (ℕ × CsType) × Checked). one.0.0) ones) (map (λ (one : (ℕ × CsType) × Checked). one.1.code) ones))) (sym k.1)
-      (code.changed k.0 (record_type found) x.code (map (λ (one : (ℕ × CsType) × Checked). one.0.0) ones) (map (λ (one : (ℕ × CsType) × Checked). one.1.code) ones) (fit.records k.0 found k.2) (subst (λ z. HasType at locals z x.code) k.1 h) l)))
+      then_fine (λ all. AllReplaced at locals (record_type found).parts all) (λ y. ValueFits at locals y) (replacements s found parts) (λ all. with_replaced x place all) (each_part found parts hs)
+      (λ all r. changed_fine found x place all e h r)
 
 pub with_sound : (a : Value) (parts : List Given) (place : Place) → ValueSound a → AllGiven parts → ValueSound (with_of a parts place)
-unfolding with_of
+unfolding with_of record_named record_of
 with_sound a parts place h hs at locals s fit =
     then_fine (λ x. ValueFits at locals x) (λ x. ValueFits at locals x) (a s) (λ x. with_parts (record_of s.records x.expr_type) parts x place s) (h at locals s fit) (λ x hx. parts_fine at locals s fit (record_of s.records x.expr_type) parts x place refl hs hx)
 
 -- the operators of assignments in both tables
 same_operator : (o : AssignOp) → operator_in o ≡ operator_of o
+unfolding operator_of
 same_operator assign_op.Set = refl
 same_operator assign_op.Add = refl
 same_operator assign_op.Subtract = refl
@@ -125,6 +147,7 @@ same_operator assign_op.Divide = refl
 same_operator assign_op.Remainder = refl
 
 only_set : (o : AssignOp) → operator_of o ≡ None → o ≡ assign_op.Set
+unfolding operator_of
 only_set assign_op.Set e = refl
 only_set assign_op.Add e = absurd (cc)
 only_set assign_op.Subtract e = absurd (cc)
@@ -133,6 +156,7 @@ only_set assign_op.Divide e = absurd (cc)
 only_set assign_op.Remainder e = absurd (cc)
 
 not_equal : (o : AssignOp) → operator_of o ≡ Some binary_op.Equal → ⊥
+unfolding operator_of
 not_equal assign_op.Set e = absurd (cc)
 not_equal assign_op.Add e = absurd (cc)
 not_equal assign_op.Subtract e = absurd (cc)
@@ -141,6 +165,7 @@ not_equal assign_op.Divide e = absurd (cc)
 not_equal assign_op.Remainder e = absurd (cc)
 
 not_unequal : (o : AssignOp) → operator_of o ≡ Some binary_op.NotEqual → ⊥
+unfolding operator_of
 not_unequal assign_op.Set e = absurd (cc)
 not_unequal assign_op.Add e = absurd (cc)
 not_unequal assign_op.Subtract e = absurd (cc)
@@ -155,6 +180,7 @@ shown_plain type op.text = text_alone
 
 -- what such an assignment changes is no callback
 plain_target : (o : AssignOp) (by : BinaryOp) (one other type : CsType) → operator_of o ≡ Some by → Combines by one other type → Plain one
+unfolding operator_of
 plain_target o by one other type e (op.arithmetic _ i) = int_alone
 plain_target o by one other type e (op.ordering _ i) = int_alone
 plain_target o by one other type e (op.equal _ _) = absurd (not_equal o e)
@@ -170,6 +196,7 @@ module _ (at : Surroundings) (locals : List CsType) (records : List Member) wher
     pub has_value : CodeHas at locals value a
 
   joined_assigns : (o : AssignOp) (by : BinaryOp) (target : Variable) (type : CsType) (x : Checked) (given : ExprType) → operator_of o ≡ Some by → Joined (λ z. VariableHas at locals z target) (λ z. CodeHas at locals z x.code) (Of type) by given → fits given type ≡ true → Assigns o type x.code
+  unfolding drops_argument fits fits_type may_be_null operator_of
   joined_assigns o by target type x given e j f =
       let own : type ≡ j.one = j.own type refl in
       let plain : Plain type = subst Plain (sym own) (plain_target o by j.one j.other j.type e j.takes) in
@@ -181,6 +208,7 @@ module _ (at : Surroundings) (locals : List CsType) (records : List Member) wher
       }
 
   assigned_fine : (o : AssignOp) (by : Option BinaryOp) (place : Place) (target : Variable) (type : CsType) (x : Checked) → operator_of o ≡ by → VariableHas at locals type target → ValueFits at locals x → IfFine (λ a. Assigns o type a) (assigned records by place type x)
+  unfolding are_compared assigned binary_type common_type comparison_type drops_argument either_type fits fits_type fitting given_type is_comparable is_nullable is_shown is_text may_be_null may_compare operator_of plain_type shown sum_type taken_type wants
   assigned_fine o None place target type x e v h =
       weaker_fine (λ a. CodeHas at locals type a) (λ a. Assigns o type a) (fitting type x) (fitting_fine at locals type x h) (λ a k. record { value = type; takes = subst (λ z. AssignTakes z type type) (sym (only_set o e)) (op.set type); has_value = k })
   assigned_fine o (Some by) place target type x e v h =
@@ -189,7 +217,7 @@ module _ (at : Surroundings) (locals : List CsType) (records : List Member) wher
       (λ given j. then_fine (λ u. fits given type ≡ true) (λ a. Assigns o type a) (wants type x.place given) (λ u. fine x.code) (wants_fine type x.place given) (λ u f. joined_assigns o by target type x given e j f))
 
 pub assign_sound : (o : AssignOp) (target : Ident) (a : Value) (place : Place) → ValueSound a → ValueSound (assign o target a place)
-unfolding assign
+unfolding assign are_compared assigned binary_type common_type comparison_type drops_argument either_type fits fits_type fitting given_type is_comparable is_nullable is_shown is_text may_be_null may_compare meant operator_of plain_type shown sum_type taken_type variable_of wants meant_by
 assign_sound o target a place h at locals s fit =
     then_fine (λ one. meant s.names target.name ≡ Some one) (λ x. ValueFits at locals x) (known UnknownName target.place (meant s.names target.name))
     (λ one. a s >>= λ x. (variable_of target.place one.kind one.place >>= λ variable. (assigned s.records (operator_of o) target.place one.cs_type x >>= λ z. fine (checked place (c.Assign variable o z) t.Nothing)))) (known_fine UnknownName target.place (meant s.names target.name))
@@ -199,7 +227,7 @@ assign_sound o target a place h at locals s fit =
     (λ z k. code.assign variable o one.cs_type k.value z v k.takes k.has_value))))
 
 pub step_sound : (o : StepOp) (target : Ident) (place : Place) → ValueSound (step o target place)
-unfolding step
+unfolding step drops_argument fits fits_type may_be_null meant variable_of wants meant_by
 step_sound o target place at locals s fit =
     then_fine (λ one. meant s.names target.name ≡ Some one) (λ x. ValueFits at locals x) (known UnknownName target.place (meant s.names target.name))
     (λ one. variable_of target.place one.kind one.place >>= λ variable. (wants t.Int target.place (Of one.cs_type) >>= λ u. fine (checked place (c.Step variable o) t.Nothing))) (known_fine UnknownName target.place (meant s.names target.name))

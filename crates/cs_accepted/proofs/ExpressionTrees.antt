@@ -24,7 +24,7 @@ use Rattle.cs_rules.specs.declared.callee.Callee.{Callee}
 use Rattle.cs_rules.specs.declared.checked.ExprType.TheVariants.{Null}
 use Rattle.cs_rules.specs.Judged.{Judged, fine, mismatch, ◌>>=◌}
 use Rattle.cs_rules.specs.Types.{checked}
-use Rattle.cs_rules.specs.Library.{callee_of_value, static_callee}
+use Rattle.cs_rules.specs.Library.{callee_of_value, static_callee, found_static, static_value}
 use Rattle.cs_rules.specs.Expressions.{Value, Given}
 use Rattle.cs_rules.specs.Expressions as e
 use Rattle.cs_rules.specs.Trees.{Uses, uses, uses_of_kind, piece, given}
@@ -98,11 +98,13 @@ same_piece : (a b : Scope → Judged Code) → ((s : Scope) → a s ≡ b s) →
 same_piece a b is h at locals s fit = subst (IfFine (λ x. PieceFits at locals x)) (sym (is s)) (h at locals s fit)
 
 called_value : (a : Value) → ValueSound a → CalleeSound (λ s. a s >>= callee_of_value)
+unfolding callee_of_value
 called_value a h at locals s fit = then_fine (λ x. ValueFits at locals x) (λ it. CalleeFits at locals it) (a s) callee_of_value (h at locals s fit) (λ x k. value_called at locals x k)
 
 -- a form that is called as a value is
 other : (kind : ExprKind) (place : Place) (w : Value) → ((s : Scope) → (uses_of_kind kind place).value s ≡ w s) → ValueSound w
     → ((n : List ℕ) → kind ≡ ek.Name n → ⊥) → ((a : Expr) (n : Ident) → kind ≡ ek.Member a n → ⊥) → ((of : StaticType) (n : Ident) → kind ≡ ek.Static of n → ⊥) → UsesSound (uses_of_kind kind place)
+unfolding callee_of_value
 other kind place w is h name member static =
     let as_value : ValueSound (uses_of_kind kind place).value = same_value (uses_of_kind kind place).value w is h in
     record {
@@ -124,6 +126,7 @@ parts_given (one ∷ others) = one_given (given one.0) (map given (map (λ (z : 
 
 -- the forms of expressions
 go : (y : Layer) → KindSound (roll-ExprKind (known y))
+unfolding callee_of_value found_static static_callee static_value
 go (ExprKind-F.Int n) = subst KindSound (sym (ek.rolls-Int n)) (λ place. other (ek.Int n) place (λ s. fine (checked place (c.Int n) t.Int)) (law.int_value n place) (λ at locals s fit. code.int n) (λ m h. absurd (cc)) (λ a m h. absurd (cc)) (λ of m h. absurd (cc)))
 go (ExprKind-F.Bool b) = subst KindSound (sym (ek.rolls-Bool b)) (λ place. other (ek.Bool b) place (λ s. fine (checked place (c.Bool b) t.Bool)) (law.bool_value b place) (λ at locals s fit. code.bool b) (λ m h. absurd (cc)) (λ a m h. absurd (cc)) (λ of m h. absurd (cc)))
 go (ExprKind-F.Text x) = subst KindSound (sym (ek.rolls-Text x)) (λ place. other (ek.Text x) place (λ s. fine (checked place (c.Text x) t.Text)) (law.text_value x place) (λ at locals s fit. code.text x) (λ m h. absurd (cc)) (λ a m h. absurd (cc)) (λ of m h. absurd (cc)))

@@ -12,10 +12,10 @@ use Rattle.cs_ast.specs.declared.scope.Scope.{Scope}
 use Rattle.cs_rules.specs.declared.checked.ExprType.{ExprType}
 use Rattle.cs_rules.specs.declared.rule.Rule.TheVariants.{TypeMismatch}
 use Rattle.cs_rules.specs.Judged.{Judged, fine, mismatch, each, if_there, ◌>>=◌}
-use Rattle.cs_rules.specs.Types.{same_type, drops_argument, fits_type, fitting}
+use Rattle.cs_rules.specs.Types.{same_type, drops_argument, fits_type, fitting, fits, may_be_null}
 use Rattle.cs_rules.specs.Names.{is_new, with_local}
 use Rattle.cs_rules.specs.Expressions.{Value, items_of}
-use Rattle.cs_rules.specs.Statements.{Done, done, Statement, in_order, alone, condition, started, stepped, for_loop, for_each, decides, labelled, constants_of, has_default, section, switch_of, return_of}
+use Rattle.cs_rules.specs.Statements.{Done, done, Statement, in_order, alone, condition, started, stepped, for_loop, for_each, decides, constants, has_default, section, switch_of, return_of}
 use Rattle.cs_rules.proofs.SameType.{same_equal}
 use Rattle.cs_typing.specs.Expressions.{Surroundings, CodeHas}
 use Rattle.cs_typing.specs.Statements.{Jumps, jumps, Always, Condition, Stepping, Runs, AllRun, Starts, SectionsRun}
@@ -62,11 +62,13 @@ start_fine o start body j at locals s (a_start l one h) allows fit =
     (λ d k. record { within = k.inner; starts = run.start j locals k.inner l.ends d.code k.runs; scope_fits = k.scope_fits; same_result = k.same_result })
 
 test_fine : (forever : Bool) (test : Option Value) (at : Surroundings) (locals : List CsType) (s : Scope) → TestSound forever test → ScopeFits at locals s → IfFine (λ code. Condition at locals code) (if_there (λ a. condition a s) test)
+unfolding condition drops_argument fits fits_type fitting may_be_null
 test_fine forever test at locals s no_test fit = run.none
 test_fine forever test at locals s (a_test _ a h is) fit =
     then_fine (λ x. CodeHas at locals t.Bool x) (λ code. Condition at locals code) (condition a s) (λ y. fine (Some y)) (condition_fine a at locals s h fit) (λ y k. run.some y k)
 
 always_fine : (test : Option Value) (at : Surroundings) (locals : List CsType) (s : Scope) (forever : Bool) → TestSound forever test → forever ≡ true → IfFine (λ code. Always code) (if_there (λ a. condition a s) test)
+unfolding condition drops_argument fits fits_type fitting may_be_null
 always_fine test at locals s forever no_test e = run.none
 always_fine test at locals s forever (a_test _ a h is) e =
     then_fine (λ x. x ≡ c.Bool true) (λ code. Always code) (condition a s) (λ y. fine (Some y)) (always_condition a s (is e)) (λ y k. subst (λ z. Always (Some z)) (sym k) run.yes_always)
@@ -95,10 +97,11 @@ total (Some s) forever l = refl
 module _ (at : Surroundings) (locals : List CsType) (s : Scope) (j : Jumps) (o : Option Leaves) (start : Option Statement) (forever : Bool) (test step : Option Value) (l : Leaves) (body : Statement)
     (fit : ScopeFits at locals s) (begun : IfFine (λ first. StartFits at locals s j (begins o) first) (started start s)) (tests : TestSound forever test) (steps : OptionSound step) (h : StatementSound l body) where
   rest : (Option Code × Scope) → Judged Done
+  unfolding condition drops_argument fits fits_type fitting may_be_null
   rest first = if_there (λ a. condition a first.1) test >>= λ code. (if_there (λ a. stepped a first.1) step >>= λ next. (alone body first.1 >>= λ turn. fine (done s (c.For first.0 code next turn))))
 
   loop_ends : IfFine (λ d. DoneFits at locals s j (begins o) d) (started start s >>= rest)
-  unfolding rest
+  unfolding rest condition drops_argument fits fits_type fitting may_be_null
   loop_ends =
       then_fine (λ first. StartFits at locals s j (begins o) first) (λ d. DoneFits at locals s j (begins o) d) (started start s) rest begun
       (λ first k. then_fine (λ code. Condition at k.within code) (λ d. DoneFits at locals s j (begins o) d) (if_there (λ a. condition a first.1) test) (λ code. (if_there (λ a. stepped a first.1) step >>= λ next. (alone body first.1 >>= λ turn. fine (done s (c.For first.0 code next turn))))) (test_fine forever test at k.within first.1 tests k.scope_fits)
@@ -107,7 +110,7 @@ module _ (at : Surroundings) (locals : List CsType) (s : Scope) (j : Jumps) (o :
       (λ turn r. stays at locals s j (begins o) (c.For first.0 code next turn) fit (run.for_loop j locals k.within r.inner (begins o) l.ends first.0 code next turn k.starts m n (subst (λ z. Runs at z (jumps true true) k.within r.inner l.ends turn) k.same_result r.runs))))))
 
   loop_forever : forever ≡ true → l.breaks ≡ false → IfFine (λ d. DoneFits at locals s j false d) (started start s >>= rest)
-  unfolding rest
+  unfolding rest condition drops_argument fits fits_type fitting may_be_null
   loop_forever e n =
       then_fine (λ first. StartFits at locals s j (begins o) first) (λ d. DoneFits at locals s j false d) (started start s) rest begun
       (λ first k. then_fine (λ code. Always code) (λ d. DoneFits at locals s j false d) (if_there (λ a. condition a first.1) test) (λ code. (if_there (λ a. stepped a first.1) step >>= λ next. (alone body first.1 >>= λ turn. fine (done s (c.For first.0 code next turn))))) (always_fine test at k.within first.1 forever tests e)
@@ -129,7 +132,7 @@ for_sound o start forever test step l body h tests steps g j at locals s allows 
     whole_loop at locals s j o start forever test step l body fit (start_fine o start (looped forever l) j at locals s h allows fit) tests steps g
 
 pub for_each_sound : (name : Ident) (list : Value) (l : Leaves) (body : Statement) → ValueSound list → StatementSound l body → StatementSound (looped false l) (for_each name list body)
-unfolding for_each
+unfolding for_each is_new items_of with_local
 for_each_sound name list l body h g j at locals s allows fit =
     then_fine (λ n. Unit {0}) (λ d. DoneFits at locals s j true d) (is_new s name) (λ new. list s >>= λ x. (items_of x.place x.expr_type >>= λ item. (alone body (with_local s name.name item) >>= λ turn. fine (done s (c.ForEach x.code turn))))) (anything (is_new s name))
     (λ n u. then_fine (λ x. ValueFits at locals x) (λ d. DoneFits at locals s j true d) (list s) (λ x. (items_of x.place x.expr_type >>= λ item. (alone body (with_local s name.name item) >>= λ turn. fine (done s (c.ForEach x.code turn))))) (h at locals s fit)
@@ -142,9 +145,9 @@ for_each_sound name list l body h g j at locals s allows fit =
 pub section_sound : (labels : List Label) (ls : List Leaves) (body : List Statement) → AllStatements ls body → SectionSound (section_of (has_default labels) (leave.in_order ls)) (section labels body)
 unfolding section
 section_sound labels ls body hs j at locals s decided allows fit =
-    then_fine (λ k. Unit {0}) (λ x. SectionFits at s.result locals j (section_of (has_default labels) (leave.in_order ls)) x) (each (λ one. labelled decided one.place one.kind) labels) (λ constants. in_order body s >>= λ codes. fine (c.Section (constants_of constants) (has_default labels) codes)) (anything (each (λ one. labelled decided one.place one.kind) labels))
-    (λ constants u. then_fine (λ codes. CodesFit at s.result locals j (leave.in_order ls).ends codes) (λ x. SectionFits at s.result locals j (section_of (has_default labels) (leave.in_order ls)) x) (in_order body s) (λ codes. fine (c.Section (constants_of constants) (has_default labels) codes)) (in_order_fine ls body j at locals s hs (record { breaks_may = allows.breaks_may; continues_may = allows.continues_may }) fit)
-    (λ codes k. record { constants = constants_of constants; statements = codes; inner = k.inner; is = refl; runs = k.runs }))
+    then_fine (λ k. Unit {0}) (λ x. SectionFits at s.result locals j (section_of (has_default labels) (leave.in_order ls)) x) (constants decided labels) (λ values. in_order body s >>= λ codes. fine (c.Section values (has_default labels) codes)) (anything (constants decided labels))
+    (λ values u. then_fine (λ codes. CodesFit at s.result locals j (leave.in_order ls).ends codes) (λ x. SectionFits at s.result locals j (section_of (has_default labels) (leave.in_order ls)) x) (in_order body s) (λ codes. fine (c.Section values (has_default labels) codes)) (in_order_fine ls body j at locals s hs (record { breaks_may = allows.breaks_may; continues_may = allows.continues_may }) fit)
+    (λ codes k. record { constants = values; statements = codes; inner = k.inner; is = refl; runs = k.runs }))
 
 pub data AllSections : List SectionLeaves → List (ExprType → Scope → Judged Code) → Type 0 where
   no_section : AllSections [] []
@@ -164,7 +167,7 @@ module _ (a : Value) (ls : List SectionLeaves) (sections : List (ExprType → Sc
   switch_by : (ends out : Bool) → Allows (jumps out j.continues) (any_section ls).breaks (any_section ls).continues
       → ((type : CsType) (x : Code) (codes : List Code) → CodeHas at locals type x → SectionsRun at s.result (jumps out j.continues) locals (any_section ls).ends (any_section ls).default codes → Runs at s.result j locals locals ends (c.Switch x codes))
       → IfFine (λ d. DoneFits at locals s j ends d) (switch_of a sections s)
-  unfolding switch_of
+  unfolding switch_of decides
   switch_by ends out may makes =
       then_fine (λ x. ValueFits at locals x) (λ d. DoneFits at locals s j ends d) (a s) (λ x. (if decides x.expr_type then fine x.expr_type else mismatch x.place) >>= λ decided. (each (λ one. one decided s) sections >>= λ codes. fine (done s (c.Switch x.code codes)))) (h at locals s fit)
       (λ x hx. then_fine (λ z. Unit {0}) (λ d. DoneFits at locals s j ends d) (if decides x.expr_type then fine x.expr_type else mismatch x.place) (λ decided. (each (λ one. one decided s) sections >>= λ codes. fine (done s (c.Switch x.code codes)))) (anything (if decides x.expr_type then fine x.expr_type else mismatch x.place))
@@ -193,6 +196,7 @@ switch_sound a ls sections h hs j at locals s allows fit = by_sections a ls sect
 
 -- `return`
 nothing_result : (result : CsType) → fits_type t.Nothing result ≡ true → result ≡ t.Nothing
+unfolding drops_argument fits_type
 nothing_result result e =
     elim (either_passes (same_type t.Nothing result) (drops_argument (out-CsType t.Nothing) (out-CsType result)) e) [
       | inl i ↦ sym (same_equal t.Nothing result i)
@@ -200,7 +204,7 @@ nothing_result result e =
     ]
 
 pub return_sound : (a : Option Value) (place : Place) → OptionSound a → StatementSound (record { breaks = false; continues = false; ends = false }) (return_of a place)
-unfolding return_of
+unfolding return_of drops_argument fits fits_type fitting may_be_null
 return_sound a place no_value j at locals s allows fit =
     tested_fine (λ d. DoneFits at locals s j false d) (fits_type t.Nothing s.result) (done s (c.Return None)) TypeMismatch place (λ e. stays at locals s j false (c.Return None) fit (run.return j locals (nothing_result s.result e)))
 return_sound a place (a_value x h) j at locals s allows fit =

@@ -24,7 +24,7 @@ use Rattle.cs_rules.specs.declared.checked.ExprType.{ExprType}
 use Rattle.cs_rules.specs.declared.checked.ExprType.TheVariants.{Of, Null, Markup}
 use Rattle.cs_rules.specs.declared.rule.Rule.TheVariants.{UnknownName, TypeMismatch}
 use Rattle.cs_rules.specs.Judged.{fine, mismatch, known, ◌>>=◌}
-use Rattle.cs_rules.specs.Types.{may_be_null, own_type, checked}
+use Rattle.cs_rules.specs.Types.{may_be_null, own_type, checked, has_values}
 use Rattle.cs_rules.specs.Names.{value_of_kind, value_of_name, variable_of}
 use Rattle.cs_rules.specs.Written.{type_of, Declared, record_named}
 use Rattle.cs_rules.specs.Library.{part_from, part_named, entry, of_all, of_texts, of_lists, argument_types, of_callbacks, of_changes, behind_level, behind, value_of_member, null_member, static_value, found_static, fragment_level, callee_of_type, callee_of_value, callee_of_member, static_callee, code_of_call}
@@ -51,6 +51,7 @@ module _ (at : Surroundings) (locals : List CsType) where
 
   -- a name as a target
   pub named_variable : (place : Place) (kind : NameKind) (number : ℕ) (type : CsType) → NameFits at locals type number kind → IfFine (λ target. VariableHas at locals type target) (variable_of place kind number)
+  unfolding variable_of
   named_variable place kind number type (scope.field h) = code.field type number h
   named_variable place kind number type (scope.parameter h) = tt
   named_variable place kind number type (scope.local h) = code.local type number h
@@ -59,6 +60,7 @@ module _ (at : Surroundings) (locals : List CsType) where
 
   -- a value as what is called
   fragment_called : (place : Place) (a : Code) (type : CsType) (x : CsType-F CsType) → out-CsType type ≡ x → CodeHas at locals type a → IfFine (λ it. CalleeFits at locals it) (fragment_level place a x)
+  unfolding code_of_call
   fragment_called place a type (CsType-F.Fragment (Some argument)) e h = filled
     where
       fragment : CodeHas at locals (t.Fragment (Some argument)) a
@@ -70,6 +72,7 @@ module _ (at : Surroundings) (locals : List CsType) where
   fragment_called place a type _ e h = tt
 
   pub value_called : (x : Checked) → ValueFits at locals x → IfFine (λ it. CalleeFits at locals it) (callee_of_value x)
+  unfolding callee_of_value
   value_called x h = by x.expr_type h
     where
       by : (given : ExprType) → HasType at locals given x.code → IfFine (λ it. CalleeFits at locals it) (callee_of_type x.place x.code given)
@@ -79,6 +82,7 @@ module _ (at : Surroundings) (locals : List CsType) where
 
   -- a name as what is called
   pub named_callee : (place : Place) (one : Named) (kind : NameKind) → one.kind ≡ kind → NameFits at locals one.cs_type one.place one.kind → IfFine (λ it. CalleeFits at locals it) (callee_by_kind place one kind)
+  unfolding callee_by_kind callee_of_value value_of_name code_of_call
   named_callee place one kind e h = by kind (subst (λ k. NameFits at locals one.cs_type one.place k) e h)
     where
       as_value : IfFine (λ it. CalleeFits at locals it) (value_of_name place one >>= callee_of_value)
@@ -140,6 +144,7 @@ part_in name parts found e = let k = part_at 0 name parts found e in ap (slice_g
 module _ (at : Surroundings) (locals : List CsType) (s : Scope) (fit : ScopeFits at locals s) where
   -- the part of a record
   part_fits : (name part_name : List ℕ) (o : Option Declared) (found : Dotted) → record_named s.records name ≡ o → part_named o part_name ≡ Some found → DottedFits at (t.Rec name) found
+  unfolding record_named
   part_fits name part_name None found is e = absurd (cc)
   part_fits name part_name (Some declared) found is e = by (part_from 0 part_name declared.parts) refl e
     where
@@ -151,6 +156,7 @@ module _ (at : Surroundings) (locals : List CsType) (s : Scope) (fit : ScopeFits
           (record { name = name; declaration = record_type declared; is = refl; named = fit.records name declared is; in_place = part_in part_name declared.parts part i })
 
   level_fits : (type : CsType) (x : CsType-F CsType) (name : List ℕ) (found : Dotted) → roll-CsType x ≡ type → behind_level s.records x name ≡ Some found → DottedFits at type found
+  unfolding record_named
   level_fits type CsType-F.Int name found is e = subst (λ z. DottedFits at z found) (sym t.rolls-Int ∙ is) (entry_in (DottedFits at t.Int) name of_all found (op.to_text t.Int op.int, tt) e)
   level_fits type CsType-F.Bool name found is e = subst (λ z. DottedFits at z found) (sym t.rolls-Bool ∙ is) (entry_in (DottedFits at t.Bool) name of_all found (op.to_text t.Bool op.bool, tt) e)
   level_fits type CsType-F.Text name found is e = subst (λ z. DottedFits at z found) (sym t.rolls-Text ∙ is) (entry_in (DottedFits at t.Text) name of_texts found (op.length, (op.to_text t.Text op.text, tt)) e)
@@ -166,6 +172,7 @@ module _ (at : Surroundings) (locals : List CsType) (s : Scope) (fit : ScopeFits
 
   -- a name behind a dot
   pub dotted_fine : (x : Checked) (name : Ident) → ValueFits at locals x → IfFine (λ found. (type : CsType) × CodeHas at locals type x.code × DottedFits at type found) (dotted s x name)
+  unfolding behind dotted has_values own_type
   dotted_fine x name h =
       then_fine (λ type. x.expr_type ≡ Of type) (λ found. (type : CsType) × CodeHas at locals type x.code × DottedFits at type found) (own_type x.place x.expr_type) (λ type. known UnknownName name.place (behind s.records type name.name)) (own_type_fine x.place x.expr_type)
       (λ type is. weaker_fine (λ found. behind s.records type name.name ≡ Some found) (λ found. (type : CsType) × CodeHas at locals type x.code × DottedFits at type found) (known UnknownName name.place (behind s.records type name.name)) (known_fine UnknownName name.place (behind s.records type name.name))
@@ -173,6 +180,7 @@ module _ (at : Surroundings) (locals : List CsType) (s : Scope) (fit : ScopeFits
 
   -- a member as a value
   pub member_value : (place : Place) (a : Code) (type : CsType) (found : Dotted) → CodeHas at locals type a → DottedFits at type found → IfFine (λ x. ValueFits at locals x) (value_of_member place a found)
+  unfolding behind dotted has_values own_type value_of_member
   member_value place a type (dot.Part number part) h f = code.part f.name f.declaration part a number f.named f.in_place (subst (λ z. CodeHas at locals z a) f.is h)
   member_value place a type (dot.Property member gives) h f = code.library member (type ∷ []) gives (a ∷ []) f (code.more type [] a [] h code.none)
   member_value place a type (dot.Method member takes gives) h f = tt
@@ -180,6 +188,7 @@ module _ (at : Surroundings) (locals : List CsType) (s : Scope) (fit : ScopeFits
 
   -- a member behind `?.`
   pub member_or_null : (place : Place) (x : Checked) (type : CsType) (found : Dotted) → CodeHas at locals type x.code → DottedFits at type found → IfFine (λ y. ValueFits at locals y) (null_member place x found)
+  unfolding behind dotted has_values may_be_null null_member own_type
   member_or_null place x type (dot.Part number part) h f =
       tested_fine (λ y. ValueFits at locals y) (may_be_null part) (checked place (c.NullPart x.code number) part) TypeMismatch x.place (λ e. code.null_part f.name f.declaration part x.code number f.named f.in_place (null_has part e) (subst (λ z. CodeHas at locals z x.code) f.is h))
   member_or_null place x type (dot.Property member gives) h f =
@@ -189,6 +198,7 @@ module _ (at : Surroundings) (locals : List CsType) (s : Scope) (fit : ScopeFits
 
   -- `InvokeAsync`
   invoke_called : (a : Code) (type : CsType) (takes : List CsType) → CodeHas at locals type a → IsInvoke type takes → (arguments : List Code) → CodesHave at locals takes arguments → CodeHas at locals t.Nothing (code_of_call (called.Invoke a) arguments)
+  unfolding code_of_call
   invoke_called a type takes h f arguments hs = by f.argument (subst (λ z. CodeHas at locals z a) f.is h) arguments (subst (λ z. CodesHave at locals z arguments) f.takes_it hs)
     where
       by : (argument : Option CsType) → CodeHas at locals (t.Callback argument) a → (arguments : List Code) → CodesHave at locals (argument_types argument) arguments → CodeHas at locals t.Nothing (code_of_call (called.Invoke a) arguments)
@@ -197,6 +207,7 @@ module _ (at : Surroundings) (locals : List CsType) (s : Scope) (fit : ScopeFits
 
   -- a member as what is called
   pub member_callee : (place : Place) (a : Code) (type : CsType) (found : Dotted) → CodeHas at locals type a → DottedFits at type found → IfFine (λ it. CalleeFits at locals it) (callee_of_member place a found)
+  unfolding behind callee_of_member callee_of_value dotted has_values own_type value_of_member code_of_call
   member_callee place a type (dot.Method member takes gives) h f = λ arguments hs. code.library member (type ∷ takes) gives (a ∷ arguments) f (code.more type takes a arguments h hs)
   member_callee place a type (dot.Invoke takes) h f = λ arguments hs. invoke_called a type takes h f arguments hs
   member_callee place a type (dot.Part number part) h f = then_fine (λ x. ValueFits at locals x) (λ it. CalleeFits at locals it) (value_of_member place a (dot.Part number part)) callee_of_value (member_value place a type (dot.Part number part) h f) (λ x k. value_called at locals x k)
@@ -204,6 +215,7 @@ module _ (at : Surroundings) (locals : List CsType) (s : Scope) (fit : ScopeFits
 
   -- `int.N` and `string.N`
   pub static_fine : (place : Place) (of : StaticType) (name : Ident) → IfFine (λ x. ValueFits at locals x) (found_static name (static_value place of name.name))
+  unfolding found_static static_value
   static_fine place static.Int name = by (bytes_eq name.name (codes "MaxValue")) (bytes_eq name.name (codes "MinValue"))
     where
       by : (a b : Bool) → IfFine (λ x. ValueFits at locals x) (found_static name (if a then Some (fine (checked place (c.Int (pos 2147483647)) t.Int)) else (if b then Some (fine (checked place (c.Int (negsuc 2147483647)) t.Int)) else None)))
@@ -218,9 +230,11 @@ module _ (at : Surroundings) (locals : List CsType) (s : Scope) (fit : ScopeFits
       by false false = tt
 
   static_as_value : (place : Place) (of : StaticType) (name : Ident) → IfFine (λ it. CalleeFits at locals it) (found_static name (static_value place of name.name) >>= callee_of_value)
+  unfolding callee_of_value found_static static_value
   static_as_value place of name = then_fine (λ x. ValueFits at locals x) (λ it. CalleeFits at locals it) (found_static name (static_value place of name.name)) callee_of_value (static_fine place of name) (λ x k. value_called at locals x k)
 
   pub static_called : (place : Place) (of : StaticType) (name : Ident) → IfFine (λ it. CalleeFits at locals it) (static_callee place of name)
+  unfolding callee_of_value found_static static_callee static_value code_of_call
   static_called place static.Int name = static_as_value place static.Int name
   static_called place static.Text name = either_fine (λ it. CalleeFits at locals it) (bytes_eq name.name (codes "IsNullOrEmpty")) (fine (record { called = called.Library library.IsNullOrEmpty None; takes = t.Text ∷ []; gives = t.Bool })) (found_static name (static_value place static.Text name.name) >>= callee_of_value)
       (λ e arguments hs. code.library library.IsNullOrEmpty (t.Text ∷ []) t.Bool arguments op.is_null_or_empty hs) (λ e. static_as_value place static.Text name)
@@ -231,6 +245,7 @@ module _ (at : Surroundings) (locals : List CsType) (s : Scope) (fit : ScopeFits
   item_fine place type _ is = tt
 
   pub items_fine : (place : Place) (given : ExprType) (a : Code) → HasType at locals given a → IfFine (λ item. CodeHas at locals (t.List item) a) (items_of place given)
+  unfolding items_of
   items_fine place (Of type) a h = weaker_fine (λ item. type ≡ t.List item) (λ item. CodeHas at locals (t.List item) a) (item_type place (out-CsType type)) (item_fine place type (out-CsType type) (roll-out-CsType type)) (λ item e. subst (λ z. CodeHas at locals z a) e h)
   items_fine place Null a h = tt
   items_fine place Markup a h = tt

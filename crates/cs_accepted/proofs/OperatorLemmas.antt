@@ -15,8 +15,8 @@ use Rattle.cs_rules.specs.declared.checked.ExprType.{ExprType}
 use Rattle.cs_rules.specs.declared.checked.ExprType.TheVariants.{Of, Null, Markup}
 use Rattle.cs_rules.specs.declared.rule.Rule.TheVariants.{TypeMismatch}
 use Rattle.cs_rules.specs.Judged.{fine, mismatch, known, ◌>>=◌}
-use Rattle.cs_rules.specs.Types.{fits, common_type, wants}
-use Rattle.cs_rules.specs.Operators.{is_text, is_shown, shown, is_nullable, alike, sum_type, either_type, may_compare, are_compared, comparison_type, binary_type, operator_of}
+use Rattle.cs_rules.specs.Types.{fits, common_type, wants, drops_argument, fits_type, may_be_null}
+use Rattle.cs_rules.specs.Operators.{is_text, is_shown, shown, is_nullable, alike, sum_type, either_type, may_compare, are_compared, comparison_type, binary_type, operator_of, given_type, plain_type, taken_type}
 use Rattle.cs_typing.specs.Values.{HasNull}
 use Rattle.cs_typing.specs.Values as has
 use Rattle.cs_typing.specs.Operators.{Shows, IsArithmetic, IsOrder, Combines, BinaryTakes, AssignTakes}
@@ -26,6 +26,7 @@ use Rattle.cs_typing.specs.Expressions as code
 use Rattle.cs_accepted.specs.Accepted.{IfFine, HasOf, HasType, ValueFits}
 use Rattle.cs_accepted.proofs.Judging.{then_fine, weaker_fine, known_fine, tested_fine, either_fine}
 use Rattle.cs_accepted.proofs.TypeLemmas.{Form, form, int, bool, text, record_of, list, callback, fragment, change, args, nothing, either_passes, no_callback, exactly, int_alone, bool_alone, wants_fine, common_has}
+use Rattle.cs_rules.specs.Written.{is_comparable}
 
 -- a type of operands that is no callback
 abbrev pub Plain : CsType → Type 0
@@ -57,6 +58,7 @@ pub record Shown (G : CsType → Type 0) (given : ExprType) : Type 0 where
   pub same : (known : CsType) → given ≡ Of known → known ≡ as_type
 
 shown_form : (G : CsType → Type 0) (type : CsType) → Form type → is_shown (Of type) ≡ true → G type → Shown G (Of type)
+unfolding is_shown
 shown_form G type int e h = record { as_type = t.Int; shows = op.int; has_it = h; same = λ known is. cc }
 shown_form G type bool e h = record { as_type = t.Bool; shows = op.bool; has_it = h; same = λ known is. cc }
 shown_form G type text e h = record { as_type = t.Text; shows = op.text; has_it = h; same = λ known is. cc }
@@ -69,11 +71,13 @@ shown_form G type args e h = absurd (cc)
 shown_form G type nothing e h = absurd (cc)
 
 pub shown_has : (G : CsType → Type 0) (given : ExprType) → is_shown given ≡ true → HasOf G given → Shown G given
+unfolding is_shown
 shown_has G (Of type) e h = shown_form G type (form type) e h
 shown_has G Null e h = record { as_type = t.Text; shows = op.text; has_it = h t.Text has.text; same = λ known is. absurd (cc) }
 shown_has G Markup e h = absurd (cc)
 
 text_form : (type : CsType) → Form type → is_text (Of type) ≡ true → type ≡ t.Text
+unfolding is_text
 text_form type text e = refl
 text_form type int e = absurd (cc)
 text_form type bool e = absurd (cc)
@@ -86,12 +90,14 @@ text_form type args e = absurd (cc)
 text_form type nothing e = absurd (cc)
 
 text_is : (given : ExprType) → is_text given ≡ true → given ≡ Of t.Text
+unfolding is_text
 text_is (Of type) e = ap (λ z. Of z) (text_form type (form type) e)
 text_is Null e = absurd (cc)
 text_is Markup e = absurd (cc)
 
 module _ (H K : CsType → Type 0) where
   alike_fine : (taken result : CsType) (p q : Place) (a b : ExprType) → Plain taken → HasOf H a → HasOf K b → IfFine (Alike H K a taken result) (alike taken result p a q b)
+  unfolding drops_argument fits fits_type may_be_null wants
   alike_fine taken result p q a b plain h k =
       then_fine (λ u. fits a taken ≡ true) (Alike H K a taken result) (wants taken p a) (λ x. wants taken q b >>= λ y. fine (Of result)) (wants_fine taken p a)
       (λ u e. then_fine (λ v. fits b taken ≡ true) (Alike H K a taken result) (wants taken q b) (λ y. fine (Of result)) (wants_fine taken q b)
@@ -104,6 +110,7 @@ module _ (H K : CsType → Type 0) where
 
   -- a sum
   joins : (a b : ExprType) → (is_text a || is_text b) ≡ true → Shown H a → Shown K b → Joined H K a binary.Add (Of t.Text)
+  unfolding is_text
   joins a b e x y =
       elim (either_passes (is_text a) (is_text b) e) [
         | inl i ↦
@@ -115,6 +122,7 @@ module _ (H K : CsType → Type 0) where
       ]
 
   sum_fine : (p q : Place) (a b : ExprType) → HasOf H a → HasOf K b → IfFine (Joined H K a binary.Add) (sum_type p a q b)
+  unfolding is_shown is_text shown sum_type
   sum_fine p q a b h k =
       either_fine (Joined H K a binary.Add) (is_text a || is_text b) (shown p a >>= λ x. (shown q b >>= λ y. fine (Of t.Text))) (alike t.Int t.Int p a q b)
       (λ e. then_fine (λ u. is_shown a ≡ true) (Joined H K a binary.Add) (shown p a) (λ x. shown q b >>= λ y. fine (Of t.Text)) (tested_fine (λ u. is_shown a ≡ true) (is_shown a) tt TypeMismatch p (λ i. i))
@@ -124,6 +132,7 @@ module _ (H K : CsType → Type 0) where
 
   -- the operators of assignments
   pub joined_fine : (records : List Member) (o : AssignOp) (by : BinaryOp) (p q : Place) (a b : ExprType) → operator_of o ≡ Some by → HasOf H a → HasOf K b → IfFine (Joined H K a by) (binary_type records by p a q b)
+  unfolding are_compared binary_type common_type comparison_type drops_argument either_type fits_type given_type is_comparable is_nullable is_shown is_text may_be_null may_compare operator_of plain_type shown sum_type taken_type
   joined_fine records o by p q a b e h k = go o by e
     where
       go : (o : AssignOp) (by : BinaryOp) → operator_of o ≡ Some by → IfFine (Joined H K a by) (binary_type records by p a q b)
@@ -157,6 +166,7 @@ module _ (at : Surroundings) (locals : List CsType) (records : List Member) wher
   order_has o x y i h k = alike_has o t.Int t.Bool x y int_alone (op.combined o t.Int t.Int t.Bool (op.ordering o i)) h k
 
   compared_has : (o : BinaryOp) (x y : Checked) → ((one other : CsType) → Combines o one other t.Bool) → ValueFits at locals x → ValueFits at locals y → IfFine (λ given. HasType at locals given (c.Binary o x.code y.code)) (comparison_type records x.place x.expr_type y.place y.expr_type)
+  unfolding are_compared comparison_type is_comparable may_be_null may_compare
   compared_has o x y takes h k =
       let a = some_type (λ type. CodeHas at locals type x.code) x.expr_type h in
       let b = some_type (λ type. CodeHas at locals type y.code) y.expr_type k in
@@ -172,6 +182,7 @@ module _ (at : Surroundings) (locals : List CsType) (records : List Member) wher
   coalesced x y Markup h k = code.binary binary.Coalesce t.Text t.Text t.Text x.code y.code (op.coalesce t.Text) h k
 
   coalesce_has : (x y : Checked) → ValueFits at locals x → ValueFits at locals y → IfFine (λ given. HasType at locals given (c.Binary binary.Coalesce x.code y.code)) (either_type (is_nullable x.expr_type) x.place x.expr_type y.place y.expr_type)
+  unfolding common_type drops_argument either_type fits_type is_nullable may_be_null
   coalesce_has x y h k =
       either_fine (λ given. HasType at locals given (c.Binary binary.Coalesce x.code y.code)) (is_nullable x.expr_type) (known TypeMismatch y.place (common_type x.expr_type y.expr_type)) (mismatch x.place)
       (λ e. weaker_fine (λ given. common_type x.expr_type y.expr_type ≡ Some given) (λ given. HasType at locals given (c.Binary binary.Coalesce x.code y.code)) (known TypeMismatch y.place (common_type x.expr_type y.expr_type)) (known_fine TypeMismatch y.place (common_type x.expr_type y.expr_type))
@@ -179,6 +190,7 @@ module _ (at : Surroundings) (locals : List CsType) (records : List Member) wher
       (λ e. tt)
 
   pub binary_has : (o : BinaryOp) (x y : Checked) → ValueFits at locals x → ValueFits at locals y → IfFine (λ given. HasType at locals given (c.Binary o x.code y.code)) (binary_type records o x.place x.expr_type y.place y.expr_type)
+  unfolding are_compared binary_type common_type comparison_type drops_argument either_type fits_type given_type is_comparable is_nullable is_shown is_text may_be_null may_compare plain_type shown sum_type taken_type
   binary_has binary.Add x y h k =
       weaker_fine (Joined (λ type. CodeHas at locals type x.code) (λ type. CodeHas at locals type y.code) x.expr_type binary.Add) (λ given. HasType at locals given (c.Binary binary.Add x.code y.code)) (sum_type x.place x.expr_type y.place y.expr_type)
       (sum_fine (λ type. CodeHas at locals type x.code) (λ type. CodeHas at locals type y.code) x.place y.place x.expr_type y.expr_type h k) (λ given j. joined_has binary.Add x y given j)

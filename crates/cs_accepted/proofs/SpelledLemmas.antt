@@ -12,12 +12,13 @@ use Rattle.cs_ast.specs.declared.expression.StmtKind.TheVariants as sk
 use Rattle.cs_token.specs.declared.token.Token.{Token}
 use Rattle.cs_grammar.specs.Statements.{Jumps, no_jumps, in_loop, in_switch, Simple, Start, Statement, Statements, Sections}
 use Rattle.cs_grammar.specs.Statements as g
-use Rattle.cs_rules.specs.Statements.{has_default}
+use Rattle.cs_rules.specs.Statements.{has_default, condition}
 use Rattle.cs_accepted.specs.Leaves.{Leaves, SectionLeaves, plain, either, branches, looped, always, any_section, switched, section_of, is_true, leaves, leaves_of_kind, section_leaves}
 use Rattle.cs_accepted.specs.Leaves as leave
 use Rattle.cs_accepted.specs.Bodies.{body_leaves}
 use Rattle.cs_accepted.proofs.TypeLemmas.{either_passes}
 use Rattle.cs_accepted.proofs.StatementTrees.{leaves_law, leaves_at, section_leaves_law}
+use Rattle.cs_rules.specs.Types.{drops_argument, fits, fits_type, fitting, may_be_null}
 
 -- jumps that leave may stand there
 record Stand (j : Jumps) (out on : Bool) : Type 0 where
@@ -48,6 +49,7 @@ start_stands j ts rest start l (g.none _) h b c = subst (λ z. Stand j z l.conti
 start_stands j ts rest start l (g.some p _ _ kind s) h b c = form_leaves p kind plain j (simple_leaves p ts rest kind s) h
 
 for_leaves : (start : Option Stmt) (condition step : Option Expr) (body : Stmt) → leaves_of_kind (sk.For start condition step body) ≡ leave.started (option_map leaves start) (looped (always (option_map is_true condition)) (leaves body))
+unfolding condition drops_argument fits fits_type fitting may_be_null
 for_leaves None None None body = leaves_at (sk.For None None None body) (StmtKind-F.For None None None body) (sk.rolls-For None None None body)
 for_leaves None None (Some e) body = leaves_at (sk.For None None (Some e) body) (StmtKind-F.For None None (Some e) body) (sk.rolls-For None None (Some e) body)
 for_leaves None (Some d) None body = leaves_at (sk.For None (Some d) None body) (StmtKind-F.For None (Some d) None body) (sk.rolls-For None (Some d) None body)
@@ -58,6 +60,8 @@ for_leaves (Some s) (Some d) None body = leaves_at (sk.For (Some s) (Some d) Non
 for_leaves (Some s) (Some d) (Some e) body = leaves_at (sk.For (Some s) (Some d) (Some e) body) (StmtKind-F.For (Some s) (Some d) (Some e) body) (sk.rolls-For (Some s) (Some d) (Some e) body)
 
 mutual
+  unfolding condition drops_argument fits fits_type fitting may_be_null
+
   statement_stands : (j : Jumps) (f : Bool) (ts rest : List Token) (a : Stmt) → Statement j f ts rest a → Stand j (leaves a).breaks (leaves a).continues
   statement_stands j f ts rest a (g.simple _ _ p c _ _ kind s _) = form_leaves p kind plain j (simple_leaves p ts (c ∷ rest) kind s) (none_stand j)
   statement_stands j f ts rest a (g.empty _ _ c _ _) = form_leaves c.place sk.Empty plain j (leaves_at sk.Empty StmtKind-F.Empty sk.rolls-Empty) (none_stand j)

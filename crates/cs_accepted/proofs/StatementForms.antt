@@ -13,11 +13,11 @@ use Rattle.cs_rules.specs.declared.checked.Checked.{Checked}
 use Rattle.cs_rules.specs.declared.checked.ExprType.TheVariants.{Of}
 use Rattle.cs_rules.specs.declared.rule.Rule.TheVariants.{TypeMismatch}
 use Rattle.cs_rules.specs.Judged.{Judged, fine, breaks, if_there, ◌>>=◌}
-use Rattle.cs_rules.specs.Types.{fits, fitting, own_type, checked}
+use Rattle.cs_rules.specs.Types.{fits, fitting, own_type, checked, drops_argument, fits_type, has_values, may_be_null}
 use Rattle.cs_rules.specs.Names.{is_new, with_local}
 use Rattle.cs_rules.specs.Written.{written}
 use Rattle.cs_rules.specs.Expressions.{Value}
-use Rattle.cs_rules.specs.Statements.{done, Statement, in_order, alone, condition, initial, local_type, local, block, if_else, while, perform}
+use Rattle.cs_rules.specs.Statements.{done, Statement, in_order, alone, condition, initial, local_type, local, block, if_else, while_loop, perform}
 use Rattle.cs_typing.specs.Expressions.{Surroundings, CodeHas}
 use Rattle.cs_typing.specs.Statements.{Jumps, jumps, Always, Condition, Stepping, Runs, AllRun, Starts, SectionsRun}
 use Rattle.cs_typing.specs.Statements as run
@@ -89,11 +89,12 @@ initial_fine at locals s name value no_value fit = tt
 initial_fine at locals s name value (a_value a h) fit = h at locals s fit
 
 local_type_fine : (at : Surroundings) (locals : List CsType) (declared : Option CsType) (x : Checked) → ValueFits at locals x → IfFine (λ type. CodeHas at locals type x.code) (local_type declared x)
+unfolding drops_argument fits fits_type has_values local_type may_be_null own_type
 local_type_fine at locals None x h = weaker_fine (λ type. x.expr_type ≡ Of type) (λ type. CodeHas at locals type x.code) (own_type x.place x.expr_type) (own_type_fine x.place x.expr_type) (λ type e. subst (λ z. HasType at locals z x.code) e h)
 local_type_fine at locals (Some type) x h = tested_fine (λ z. CodeHas at locals z x.code) (fits x.expr_type type) type TypeMismatch x.place (λ e. fits_has at locals x.expr_type type x.code e h)
 
 pub local_sound : (cs_type : Option TypeExpr) (name : Ident) (value : Option Value) → OptionSound value → StatementSound plain (local cs_type name value)
-unfolding local
+unfolding local drops_argument fits fits_type has_values is_new local_type may_be_null own_type with_local written
 local_sound cs_type name value h j at locals s allows fit =
     then_fine (λ d. Unit {0}) (λ d. DoneFits at locals s j true d) (if_there (written s.records) cs_type) (λ declared. is_new s name >>= λ new. (initial name value s >>= λ x. (local_type declared x >>= λ given. fine (done (with_local s name.name given) (c.Declare x.code))))) (anything (if_there (written s.records) cs_type))
     (λ declared u. then_fine (λ n. Unit {0}) (λ d. DoneFits at locals s j true d) (is_new s name) (λ new. (initial name value s >>= λ x. (local_type declared x >>= λ given. fine (done (with_local s name.name given) (c.Declare x.code))))) (anything (is_new s name))
@@ -136,6 +137,7 @@ alone_fine l one j at locals s h allows fit =
     then_fine (λ d. DoneFits at locals s j l.ends d) (λ code. CodeFits at s.result locals j l.ends code) (one s) (λ it. fine it.code) (h j at locals s allows fit) (λ d k. record { inner = k.inner; runs = k.runs })
 
 pub condition_fine : (a : Value) (at : Surroundings) (locals : List CsType) (s : Scope) → ValueSound a → ScopeFits at locals s → IfFine (λ code. CodeHas at locals t.Bool code) (condition a s)
+unfolding condition drops_argument fits fits_type fitting may_be_null
 condition_fine a at locals s h fit = then_fine (λ x. ValueFits at locals x) (λ code. CodeHas at locals t.Bool code) (a s) (λ x. fitting t.Bool x) (h at locals s fit) (λ x hx. fitting_fine at locals t.Bool x hx)
 
 -- a second branch that may be absent
@@ -144,7 +146,7 @@ pub data BranchSound : Option Leaves → Option Statement → Type 0 where
   a_branch : (l : Leaves) (one : Statement) → StatementSound l one → BranchSound (Some l) (Some one)
 
 pub if_sound : (test : Value) (l : Leaves) (holds : Statement) (other : Option Leaves) (fails : Option Statement) → ValueSound test → StatementSound l holds → BranchSound other fails → StatementSound (branches l other) (if_else test holds fails)
-unfolding if_else
+unfolding if_else condition drops_argument fits fits_type fitting may_be_null
 if_sound test l holds other fails h g no_branch j at locals s allows fit =
     then_fine (λ code. CodeHas at locals t.Bool code) (λ d. DoneFits at locals s j (l.ends || true) d) (condition test s) (λ code. alone holds s >>= λ first. fine (done s (c.If code first None))) (condition_fine test at locals s h fit)
     (λ code k. then_fine (λ first. CodeFits at s.result locals j l.ends first) (λ d. DoneFits at locals s j (l.ends || true) d) (alone holds s) (λ first. fine (done s (c.If code first None))) (alone_fine l holds j at locals s g (first_allows j l.breaks false l.continues false allows) fit)
@@ -161,6 +163,7 @@ abbrev pub IsAlways : Value → Type 0
 IsAlways test = (s : Scope) → (place : Place) × (test s ≡ fine (checked place (c.Bool true) t.Bool))
 
 pub always_condition : (test : Value) (s : Scope) → IsAlways test → IfFine (λ code. code ≡ c.Bool true) (condition test s)
+unfolding condition drops_argument fits fits_type fitting may_be_null
 always_condition test s h = let k = h s in subst (λ z. IfFine (λ code. code ≡ c.Bool true) (z >>= λ x. fitting t.Bool x)) (sym k.1) (tested_fine (λ code. code ≡ c.Bool true) (fits (Of t.Bool) t.Bool) (c.Bool true) TypeMismatch k.0 (λ e. refl))
 
 -- both of what holds of one judgement
@@ -168,8 +171,8 @@ pub both_fine : {A : Type 0} (P Q : A → Type 0) (j : Judged A) → IfFine P j 
 both_fine P Q (fine x) h g = (h, g)
 both_fine P Q (breaks rule place) h g = tt
 
-pub while_sound : (forever : Bool) (test : Value) (l : Leaves) (body : Statement) → (forever ≡ true → IsAlways test) → ValueSound test → StatementSound l body → StatementSound (looped forever l) (while test body)
-unfolding while
+pub while_sound : (forever : Bool) (test : Value) (l : Leaves) (body : Statement) → (forever ≡ true → IsAlways test) → ValueSound test → StatementSound l body → StatementSound (looped forever l) (while_loop test body)
+unfolding while_loop condition drops_argument fits fits_type fitting may_be_null
 while_sound forever test l body is h g j at locals s allows fit = by forever is l.breaks refl
   where
     ending : IfFine (λ d. DoneFits at locals s j true d) (condition test s >>= λ code. (alone body s >>= λ turn. fine (done s (c.While code turn))))

@@ -161,7 +161,7 @@ go (StmtKind-F.If a b (Some d)) =
     subst KindSound (sym (sk.rolls-If a.0 b.0 (Some d.0))) (λ place. same_statement (leaves_of_kind (sk.If a.0 b.0 (Some d.0))) (branches (leaves b.0) (option_map leaves (Some d.0))) (statement_of_kind (sk.If a.0 b.0 (Some d.0)) place) (st.if_else (uses a.0).value (statement b.0) (option_map statement (Some d.0)))
     (leaves_at (sk.If a.0 b.0 (Some d.0)) (StmtKind-F.If a.0 b.0 (Some d.0)) (sk.rolls-If a.0 b.0 (Some d.0))) (law.if_statement a.0 b.0 (Some d.0) place) (if_sound (uses a.0).value (leaves b.0) (statement b.0) (option_map leaves (Some d.0)) (option_map statement (Some d.0)) (value_of a.0) b.1 (branch_sound (Some d))))
 go (StmtKind-F.While a b) =
-    subst KindSound (sym (sk.rolls-While a.0 b.0)) (λ place. same_statement (leaves_of_kind (sk.While a.0 b.0)) (looped (is_true a.0) (leaves b.0)) (statement_of_kind (sk.While a.0 b.0) place) (st.while (uses a.0).value (statement b.0))
+    subst KindSound (sym (sk.rolls-While a.0 b.0)) (λ place. same_statement (leaves_of_kind (sk.While a.0 b.0)) (looped (is_true a.0) (leaves b.0)) (statement_of_kind (sk.While a.0 b.0) place) (st.while_loop (uses a.0).value (statement b.0))
     (leaves_at (sk.While a.0 b.0) (StmtKind-F.While a.0 b.0) (sk.rolls-While a.0 b.0)) (law.while_statement a.0 b.0 place) (while_sound (is_true a.0) (uses a.0).value (leaves b.0) (statement b.0) (true_always a.0) (value_of a.0) b.1))
 go (StmtKind-F.For None None None b) =
     subst KindSound (sym (sk.rolls-For None None None b.0)) (λ place. same_statement (leaves_of_kind (sk.For None None None b.0)) (leave.started (option_map leaves None) (looped (always (option_map is_true None)) (leaves b.0))) (statement_of_kind (sk.For None None None b.0) place)

@@ -49,6 +49,7 @@ form type = subst Form (roll-out-CsType type) (form_of (out-CsType type))
 
 -- types that may be null
 null_form : (type : CsType) → Form type → may_be_null type ≡ true → HasNull type
+unfolding may_be_null
 null_form type int e = absurd (cc)
 null_form type bool e = absurd (cc)
 null_form type text e = has.text
@@ -61,14 +62,17 @@ null_form type args e = absurd (cc)
 null_form type nothing e = absurd (cc)
 
 pub null_has : (type : CsType) → may_be_null type ≡ true → HasNull type
+unfolding may_be_null
 null_has type e = null_form type (form type) e
 
 -- a callback that drops its argument
 drops_level : (x y : CsType-F CsType) → drops_argument x y ≡ true → (argument : CsType) × (x ≡ CsType-F.Callback None) × (y ≡ CsType-F.Callback (Some argument))
+unfolding drops_argument
 drops_level (CsType-F.Callback None) (CsType-F.Callback (Some argument)) e = (argument, refl, refl)
 drops_level _ _ e = absurd (cc)
 
 pub drops : (given wanted : CsType) → drops_argument (out-CsType given) (out-CsType wanted) ≡ true → (argument : CsType) × (given ≡ t.Callback None) × (wanted ≡ t.Callback (Some argument))
+unfolding drops_argument
 drops given wanted e =
     let k = drops_level (out-CsType given) (out-CsType wanted) e in
     (k.0, sym (roll-out-CsType given) ∙ ap roll-CsType k.1 ∙ t.rolls-Callback None, sym (roll-out-CsType wanted) ∙ ap roll-CsType k.2 ∙ t.rolls-Callback (Some k.0))
@@ -79,6 +83,7 @@ either_passes true b e = inl refl
 either_passes false b e = inr e
 
 pub fits_code : (at : Surroundings) (locals : List CsType) (given wanted : CsType) (c : Code) → fits_type given wanted ≡ true → CodeHas at locals given c → CodeHas at locals wanted c
+unfolding drops_argument fits_type
 fits_code at locals given wanted c e h =
     elim (either_passes (same_type given wanted) (drops_argument (out-CsType given) (out-CsType wanted)) e) [
       | inl s ↦ subst (λ z. CodeHas at locals z c) (same_equal given wanted s) h
@@ -88,12 +93,14 @@ fits_code at locals given wanted c e h =
     ]
 
 pub fits_has : (at : Surroundings) (locals : List CsType) (given : ExprType) (wanted : CsType) (c : Code) → fits given wanted ≡ true → HasType at locals given c → CodeHas at locals wanted c
+unfolding drops_argument fits fits_type may_be_null
 fits_has at locals (Of given) wanted c e h = fits_code at locals given wanted c e h
 fits_has at locals Null wanted c e h = h wanted (null_has wanted e)
 fits_has at locals Markup wanted c e h = absurd (cc)
 
 -- a type that is no callback fits itself alone
 pub no_callback : (given wanted : CsType) → ((argument : CsType) → wanted ≡ t.Callback (Some argument) → ⊥) → fits_type given wanted ≡ true → given ≡ wanted
+unfolding drops_argument fits_type
 no_callback given wanted n e =
     elim (either_passes (same_type given wanted) (drops_argument (out-CsType given) (out-CsType wanted)) e) [
       | inl s ↦ same_equal given wanted s
@@ -101,6 +108,7 @@ no_callback given wanted n e =
     ]
 
 pub exactly : (H : CsType → Type 0) (given : ExprType) (wanted : CsType) → ((argument : CsType) → wanted ≡ t.Callback (Some argument) → ⊥) → fits given wanted ≡ true → HasOf H given → H wanted
+unfolding drops_argument fits fits_type may_be_null
 exactly H (Of given) wanted n e h = subst H (no_callback given wanted n e) h
 exactly H Null wanted n e h = h wanted (null_has wanted e)
 exactly H Markup wanted n e h = absurd (cc)
@@ -116,18 +124,22 @@ text_alone argument e = absurd (cc)
 
 -- what fits
 pub wants_fine : (wanted : CsType) (place : Place) (given : ExprType) → IfFine (λ u. fits given wanted ≡ true) (wants wanted place given)
+unfolding drops_argument fits fits_type may_be_null wants
 wants_fine wanted place given = tested_fine (λ u. fits given wanted ≡ true) (fits given wanted) tt _ place (λ e. e)
 
 pub fitting_fine : (at : Surroundings) (locals : List CsType) (wanted : CsType) (x : Checked) → ValueFits at locals x → IfFine (λ c. CodeHas at locals wanted c) (fitting wanted x)
+unfolding drops_argument fits fits_type fitting may_be_null
 fitting_fine at locals wanted x h = tested_fine (λ c. CodeHas at locals wanted c) (fits x.expr_type wanted) x.code _ x.place (λ e. fits_has at locals x.expr_type wanted x.code e h)
 
 pub own_type_fine : (place : Place) (given : ExprType) → IfFine (λ type. given ≡ Of type) (own_type place given)
+unfolding has_values own_type
 own_type_fine place (Of given) = tested_fine (λ type. Of given ≡ Of type) (has_values given) given _ place (λ e. refl)
 own_type_fine place Null = tt
 own_type_fine place Markup = tt
 
 -- the type of either of two values
 pub common_has : (at : Surroundings) (locals : List CsType) (a b given : ExprType) → common_type a b ≡ Some given → ((c : Code) → HasType at locals a c → HasType at locals given c) × ((c : Code) → HasType at locals b c → HasType at locals given c)
+unfolding common_type drops_argument fits_type may_be_null
 common_has at locals (Of a) (Of b) given e = by (fits_type a b) refl (fits_type b a) refl e
   where
     by : (d : Bool) → fits_type a b ≡ d → (d' : Bool) → fits_type b a ≡ d' → (if d then Some (Of b) else (if d' then Some (Of a) else None)) ≡ Some given → ((c : Code) → CodeHas at locals a c → HasType at locals given c) × ((c : Code) → CodeHas at locals b c → HasType at locals given c)

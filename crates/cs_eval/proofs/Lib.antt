@@ -3,3 +3,4 @@ pub mod ArgumentLemmas
 pub mod PartLemmas
 pub mod OutcomeLemmas
 pub mod PaidLemmas
+pub mod ChangeLemmas

@@ -24,12 +24,3 @@ pub use fault::ParseFault;
 pub use whole_expressions::{expression, tokens_spell_one_expression};
 pub use whole_members::{members, tokens_spell_one_member_list};
 pub use whole_statements::{statements, tokens_spell_one_body};
-
-#[cfg(test)]
-mod lambda_tests;
-#[cfg(test)]
-mod member_tests;
-#[cfg(test)]
-mod statement_tests;
-#[cfg(test)]
-mod tests;

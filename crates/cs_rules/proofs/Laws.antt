@@ -241,7 +241,7 @@ unfolding statement_of_form
 if_statement a b None place s = at_statement (sk.If a b None) (StmtKind-F.If a b None) place s (sk.rolls-If a b None)
 if_statement a b (Some d) place s = at_statement (sk.If a b (Some d)) (StmtKind-F.If a b (Some d)) place s (sk.rolls-If a b (Some d))
 
-pub while_statement : (a : Expr) (b : Stmt) (place : Place) (s : Scope) → statement_of_kind (sk.While a b) place s ≡ st.while (uses a).value (statement b) s
+pub while_statement : (a : Expr) (b : Stmt) (place : Place) (s : Scope) → statement_of_kind (sk.While a b) place s ≡ st.while_loop (uses a).value (statement b) s
 unfolding statement_of_form
 while_statement a b place s = at_statement (sk.While a b) (StmtKind-F.While a b) place s (sk.rolls-While a b)
 

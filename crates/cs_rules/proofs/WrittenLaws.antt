@@ -45,9 +45,21 @@ pub type_callback : (w : TypeExpr) (o : Option TypeExpr) → w.kind ≡ tk.Callb
 type_callback w None is = of_kind w (TypeKind-F.Callback None) (is ∙ sym (tk.rolls-Callback None))
 type_callback w (Some a) is = of_kind w (TypeKind-F.Callback (Some a)) (is ∙ sym (tk.rolls-Callback (Some a)))
 
+pub type_callback_none : (w : TypeExpr) (o : Option TypeExpr) → w.kind ≡ tk.Callback o → o ≡ None → type_of w ≡ ty.Callback None
+type_callback_none w o is none = type_callback w o is ∙ ap (λ (p : Option TypeExpr). ty.Callback (option_map type_of p)) none
+
+pub type_callback_some : (w a : TypeExpr) (o : Option TypeExpr) → w.kind ≡ tk.Callback o → o ≡ Some a → type_of w ≡ ty.Callback (Some (type_of a))
+type_callback_some w a o is some = type_callback w o is ∙ ap (λ (p : Option TypeExpr). ty.Callback (option_map type_of p)) some
+
 pub type_fragment : (w : TypeExpr) (o : Option TypeExpr) → w.kind ≡ tk.Fragment o → type_of w ≡ ty.Fragment (option_map type_of o)
 type_fragment w None is = of_kind w (TypeKind-F.Fragment None) (is ∙ sym (tk.rolls-Fragment None))
 type_fragment w (Some a) is = of_kind w (TypeKind-F.Fragment (Some a)) (is ∙ sym (tk.rolls-Fragment (Some a)))
+
+pub type_fragment_none : (w : TypeExpr) (o : Option TypeExpr) → w.kind ≡ tk.Fragment o → o ≡ None → type_of w ≡ ty.Fragment None
+type_fragment_none w o is none = type_fragment w o is ∙ ap (λ (p : Option TypeExpr). ty.Fragment (option_map type_of p)) none
+
+pub type_fragment_some : (w a : TypeExpr) (o : Option TypeExpr) → w.kind ≡ tk.Fragment o → o ≡ Some a → type_of w ≡ ty.Fragment (Some (type_of a))
+type_fragment_some w a o is some = type_fragment w o is ∙ ap (λ (p : Option TypeExpr). ty.Fragment (option_map type_of p)) some
 
 pub type_change : (w : TypeExpr) → w.kind ≡ tk.Change → type_of w ≡ ty.Change
 type_change w is = of_kind w TypeKind-F.Change (is ∙ sym tk.rolls-Change)

@@ -65,7 +65,7 @@ binary op a b place s = do
   fine (record { place = place; code = c.Binary op x.code y.code; expr_type = given })
 
 -- the type of `a ? b : c` by those of b and c
-abbrev pub chosen_type : Checked → Checked → Judged ExprType
+unfoldable pub chosen_type : Checked → Checked → Judged ExprType
 chosen_type x y = if is_value x.expr_type then known TypeMismatch y.place (common_type x.expr_type y.expr_type) else mismatch x.place
 
 unfoldable pub conditional : Value → Value → Value → Place → Value
@@ -94,7 +94,7 @@ abbrev pub item_type : Place → CsType-F CsType → Judged CsType
 item_type place (CsType-F.List item) = fine item
 item_type place _ = mismatch place
 
-abbrev pub items_of : Place → ExprType → Judged CsType
+unfoldable pub items_of : Place → ExprType → Judged CsType
 items_of place (Of cs_type) = item_type place (out-CsType cs_type)
 items_of place _ = mismatch place
 
@@ -107,7 +107,7 @@ index a i place s = do
   fine (checked place (c.Index x.code code) item)
 
 -- a name behind a dot, of what has a type of its own
-abbrev pub dotted : Scope → Checked → Ident → Judged Dotted
+unfoldable pub dotted : Scope → Checked → Ident → Judged Dotted
 dotted s x name = do
   cs_type ← own_type x.place x.expr_type
   known UnknownName name.place (behind s.records cs_type name.name)
@@ -133,7 +133,7 @@ all_fit (wanted ∷ others) (x ∷ xs) = do
   all_fit others xs
 
 -- arguments: as many as are wanted, each fitting
-abbrev pub passed : Place → List CsType → List Checked → Judged (List Code)
+unfoldable pub passed : Place → List CsType → List Checked → Judged (List Code)
 passed place takes xs =
     if length takes == length xs then (do
       fit ← all_fit takes xs
@@ -155,25 +155,52 @@ new name arguments place s = do
   fine (checked place (c.New found.number codes) (t.Rec name.name))
 
 -- the record that a type is
-abbrev pub record_of : List Member → ExprType → Option Declared
+unfoldable pub record_of : List Member → ExprType → Option Declared
 record_of records (Of (t.Rec name)) = record_named records name
 record_of records _ = None
 
 -- a new value of a part: the position and the type of the part, and the value
-abbrev pub replacing : Scope → Declared → Given → Judged ((ℕ × CsType) × Checked)
+pub record Replacing : Type 0 where
+  pub number : ℕ
+  pub wanted : CsType
+  pub value : Checked
+
+unfoldable pub replacing : Scope → Declared → Given → Judged Replacing
 replacing s found given = do
   part ← known UnknownName given.name.place (part_from 0 given.name.name found.parts)
   x ← given.value s
-  fine (part, x)
+  fine (record { number = part.0; wanted = part.1; value = x })
+
+-- new values of parts, in order
+pub record Replaced : Type 0 where
+  pub positions : List ℕ
+  pub wanted : List CsType
+  pub values : List Checked
+
+abbrev pub replacements : Scope → Declared → List Given → Judged Replaced
+replacements s found [] = fine (record { positions = []; wanted = []; values = [] })
+replacements s found (given ∷ others) = do
+  one ← replacing s found given
+  more ← replacements s found others
+  fine (record { positions = one.number ∷ more.positions; wanted = one.wanted ∷ more.wanted; values = one.value ∷ more.values })
+
+-- the values are looked at all the same where what stands before `with` is no record
+abbrev pub of_no_record : List Given → Place → Value
+of_no_record [] place s = mismatch place
+of_no_record (given ∷ others) place s = do
+  x ← given.value s
+  of_no_record others place s
+
+unfoldable pub with_replaced : Checked → Place → Replaced → Judged Checked
+with_replaced x place replaced = do
+  fit ← all_fit replaced.wanted replaced.values
+  fine (record { place = place; code = c.With x.code replaced.positions (map (λ y. y.code) replaced.values); expr_type = x.expr_type })
 
 abbrev pub with_parts : Option Declared → List Given → Checked → Place → Value
-with_parts None parts x place s = do
-  xs ← each (λ given. given.value s) parts
-  mismatch x.place
+with_parts None parts x place s = of_no_record parts x.place s
 with_parts (Some found) parts x place s = do
-  replaced ← each (replacing s found) parts
-  fit ← all_fit (map (λ one. one.0.1) replaced) (map (λ one. one.1) replaced)
-  fine (record { place = place; code = c.With x.code (map (λ one. one.0.0) replaced) (map (λ one. one.1.code) replaced); expr_type = x.expr_type })
+  replaced ← replacements s found parts
+  with_replaced x place replaced
 
 unfoldable pub with_of : Value → List Given → Place → Value
 with_of a parts place s = do
@@ -189,7 +216,7 @@ unfoldable pub static_member : StaticType → Ident → Place → Value
 static_member of name place s = found_static name (static_value place of name.name)
 
 -- what is assigned: the value itself, or what the operator gives of the old value and it
-abbrev pub assigned : List Member → Option BinaryOp → Place → CsType → Checked → Judged Code
+unfoldable pub assigned : List Member → Option BinaryOp → Place → CsType → Checked → Judged Code
 assigned records None target cs_type x = fitting cs_type x
 assigned records (Some op) target cs_type x = do
   given ← binary_type records op target (Of cs_type) x.place x.expr_type
@@ -213,7 +240,7 @@ step op target place s = do
   fine (checked place (c.Step variable op) t.Nothing)
 
 -- a name as what is called
-abbrev pub callee_by_kind : Place → Named → NameKind → Judged Callee
+unfoldable pub callee_by_kind : Place → Named → NameKind → Judged Callee
 callee_by_kind place one (kind.Method takes) = fine (record { called = called.Method one.place; takes = takes; gives = one.cs_type })
 callee_by_kind place one _ = value_of_name place one >>= callee_of_value
 

@@ -79,17 +79,17 @@ behind_level records (CsType-F.Callback argument) name = entry name (of_callback
 behind_level records CsType-F.Change name = entry name of_changes
 behind_level records _ name = None
 
-abbrev pub behind : List Member → CsType → List ℕ → Option Dotted
+unfoldable pub behind : List Member → CsType → List ℕ → Option Dotted
 behind records cs_type name = behind_level records (out-CsType cs_type) name
 
 -- a member as a value: a method alone is none
-abbrev pub value_of_member : Place → Code → Dotted → Judged Checked
+unfoldable pub value_of_member : Place → Code → Dotted → Judged Checked
 value_of_member place code (dotted.Part number cs_type) = fine (checked place (c.Part code number) cs_type)
 value_of_member place code (dotted.Property member cs_type) = fine (checked place (c.Library member (code ∷ [])) cs_type)
 value_of_member place code _ = mismatch place
 
 -- a member behind `?.`, which has to be one that may be null, else what stands before it is wrong
-abbrev pub null_member : Place → Checked → Dotted → Judged Checked
+unfoldable pub null_member : Place → Checked → Dotted → Judged Checked
 null_member place x (dotted.Part number cs_type) =
     if may_be_null cs_type then fine (checked place (c.NullPart x.code number) cs_type) else mismatch x.place
 null_member place x (dotted.Property member cs_type) =
@@ -97,7 +97,7 @@ null_member place x (dotted.Property member cs_type) =
 null_member place x _ = mismatch x.place
 
 -- `int.N` and `string.N` as values
-abbrev pub static_value : Place → StaticType → List ℕ → Option (Judged Checked)
+unfoldable pub static_value : Place → StaticType → List ℕ → Option (Judged Checked)
 static_value place static.Int name =
     if bytes_eq name (codes "MaxValue") then Some (fine (checked place (c.Int (pos 2147483647)) t.Int))
     else (if bytes_eq name (codes "MinValue") then Some (fine (checked place (c.Int (negsuc 2147483647)) t.Int)) else None)
@@ -105,7 +105,7 @@ static_value place static.Text name =
     if bytes_eq name (codes "Empty") then Some (fine (checked place (c.Text []) t.Text))
     else (if bytes_eq name (codes "IsNullOrEmpty") then Some (mismatch place) else None)
 
-abbrev pub found_static : Ident → Option (Judged Checked) → Judged Checked
+unfoldable pub found_static : Ident → Option (Judged Checked) → Judged Checked
 found_static name (Some judged) = judged
 found_static name None = breaks UnknownName name.place
 
@@ -118,24 +118,24 @@ abbrev pub callee_of_type : Place → Code → ExprType → Judged Callee
 callee_of_type place code (Of cs_type) = fragment_level place code (out-CsType cs_type)
 callee_of_type place code _ = mismatch place
 
-abbrev pub callee_of_value : Checked → Judged Callee
+unfoldable pub callee_of_value : Checked → Judged Callee
 callee_of_value x = callee_of_type x.place x.code x.expr_type
 
 -- a member as what is called
-abbrev pub callee_of_member : Place → Code → Dotted → Judged Callee
+unfoldable pub callee_of_member : Place → Code → Dotted → Judged Callee
 callee_of_member place code (dotted.Method member takes gives) = fine (record { called = called.Library member (Some code); takes = takes; gives = gives })
 callee_of_member place code (dotted.Invoke takes) = fine (record { called = called.Invoke code; takes = takes; gives = t.Nothing })
 callee_of_member place code other = value_of_member place code other >>= callee_of_value
 
 -- `int.N` and `string.N` as what is called
-abbrev pub static_callee : Place → StaticType → Ident → Judged Callee
+unfoldable pub static_callee : Place → StaticType → Ident → Judged Callee
 static_callee place static.Text name =
     if bytes_eq name.name (codes "IsNullOrEmpty") then fine (record { called = called.Library library.IsNullOrEmpty None; takes = t.Text ∷ []; gives = t.Bool })
     else found_static name (static_value place static.Text name.name) >>= callee_of_value
 static_callee place of name = found_static name (static_value place of name.name) >>= callee_of_value
 
 -- the code of a call over the codes of its arguments, as many as it takes
-abbrev pub code_of_call : Called → List Code → Code
+unfoldable pub code_of_call : Called → List Code → Code
 code_of_call (called.Method number) arguments = c.Call number arguments
 code_of_call (called.Library member None) arguments = c.Library member arguments
 code_of_call (called.Library member (Some target)) arguments = c.Library member (target ∷ arguments)

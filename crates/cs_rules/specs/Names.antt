@@ -22,11 +22,11 @@ first_named name [] = None
 first_named name (one ∷ others) = if bytes_eq one.name name then Some one else first_named name others
 
 -- what a name stands for: the innermost that has it
-abbrev pub meant : List Named → List ℕ → Option Named
+unfoldable pub meant : List Named → List ℕ → Option Named
 meant names name = first_named name (reverse names)
 
 -- the same where a name stands in code
-abbrev pub meant_by : Scope → Ident → Judged Named
+unfoldable pub meant_by : Scope → Ident → Judged Named
 meant_by s name = known UnknownName name.place (meant s.names name.name)
 
 abbrev pub is_local : NameKind → Bool
@@ -43,11 +43,11 @@ abbrev pub local : List Named → List ℕ → CsType → Named
 local names name cs_type = record { name = name; cs_type = cs_type; kind = kind.Local; place = locals_in names }
 
 -- the scope behind its declaration
-abbrev pub with_local : Scope → List ℕ → CsType → Scope
+unfoldable pub with_local : Scope → List ℕ → CsType → Scope
 with_local s name cs_type = record s { names = s.names ++ local s.names name cs_type ∷ [] }
 
 -- no local in scope has the name of a new one
-abbrev pub is_new : Scope → Ident → Judged (Unit {0})
+unfoldable pub is_new : Scope → Ident → Judged (Unit {0})
 is_new s name =
     if list_any (λ one. is_local one.kind && bytes_eq one.name name.name) s.names then breaks DuplicateName name.place else fine tt
 
@@ -59,11 +59,11 @@ value_of_kind place kind.Local number cs_type = fine (checked place (c.Local num
 value_of_kind place kind.Getter number cs_type = fine (checked place (c.Call number []) cs_type)
 value_of_kind place (kind.Method takes) number cs_type = mismatch place
 
-abbrev pub value_of_name : Place → Named → Judged Checked
+unfoldable pub value_of_name : Place → Named → Judged Checked
 value_of_name place one = value_of_kind place one.kind one.place one.cs_type
 
 -- a name as the target of an assignment
-abbrev pub variable_of : Place → NameKind → ℕ → Judged Variable
+unfoldable pub variable_of : Place → NameKind → ℕ → Judged Variable
 variable_of place kind.Field number = fine (variable.Field number)
 variable_of place kind.Local number = fine (variable.Local number)
 variable_of place kind.Parameter number = breaks ParameterAssigned place

@@ -20,17 +20,17 @@ use Rattle.cs_rules.specs.Types.{same_type, may_be_null, has_values, common_type
 use Rattle.cs_rules.specs.Written.{is_comparable}
 
 -- the type that an operator before its operand takes and gives
-abbrev pub unary_type : UnaryOp → CsType
+unfoldable pub unary_type : UnaryOp → CsType
 unary_type unary.Not = t.Bool
 unary_type _ = t.Int
 
 -- the type that a cast gives of a text
-abbrev pub cast_type : CastOp → ExprType
+unfoldable pub cast_type : CastOp → ExprType
 cast_type cast.Text = Of t.Text
 cast_type cast.Markup = Markup
 
 -- the type that an operator takes on both sides, where it is one
-abbrev pub taken_type : BinaryOp → Option CsType
+unfoldable pub taken_type : BinaryOp → Option CsType
 taken_type binary.Or = Some t.Bool
 taken_type binary.And = Some t.Bool
 taken_type binary.Less = Some t.Int
@@ -44,36 +44,36 @@ taken_type binary.Remainder = Some t.Int
 taken_type _ = None
 
 -- the type that such an operator gives
-abbrev pub given_type : BinaryOp → CsType
+unfoldable pub given_type : BinaryOp → CsType
 given_type binary.Subtract = t.Int
 given_type binary.Multiply = t.Int
 given_type binary.Divide = t.Int
 given_type binary.Remainder = t.Int
 given_type _ = t.Bool
 
-abbrev pub is_text : ExprType → Bool
+unfoldable pub is_text : ExprType → Bool
 is_text (Of t.Text) = true
 is_text _ = false
 
 -- what can be joined to a text
-abbrev pub is_shown : ExprType → Bool
+unfoldable pub is_shown : ExprType → Bool
 is_shown (Of t.Int) = true
 is_shown (Of t.Bool) = true
 is_shown (Of t.Text) = true
 is_shown Null = true
 is_shown _ = false
 
-abbrev pub shown : Place → ExprType → Judged (Unit {0})
+unfoldable pub shown : Place → ExprType → Judged (Unit {0})
 shown place given = if is_shown given then fine tt else mismatch place
 
 -- what may be null
-abbrev pub is_nullable : ExprType → Bool
+unfoldable pub is_nullable : ExprType → Bool
 is_nullable (Of given) = may_be_null given
 is_nullable Null = true
 is_nullable Markup = false
 
 -- what there are values of
-abbrev pub is_value : ExprType → Bool
+unfoldable pub is_value : ExprType → Bool
 is_value (Of given) = has_values given
 is_value Null = true
 is_value Markup = false
@@ -86,7 +86,7 @@ alike taken given first a second b = do
   fine (Of given)
 
 -- `+` joins where a text is on one side, and else it adds
-abbrev pub sum_type : Place → ExprType → Place → ExprType → Judged ExprType
+unfoldable pub sum_type : Place → ExprType → Place → ExprType → Judged ExprType
 sum_type first a second b =
     if is_text a || is_text b then (do
       x ← shown first a
@@ -95,36 +95,36 @@ sum_type first a second b =
     else alike t.Int t.Int first a second b
 
 -- the type of either of two values
-abbrev pub either_type : Bool → Place → ExprType → Place → ExprType → Judged ExprType
+unfoldable pub either_type : Bool → Place → ExprType → Place → ExprType → Judged ExprType
 either_type allowed first a second b = if allowed then known TypeMismatch second (common_type a b) else mismatch first
 
 -- an operator that takes one type on both sides
-abbrev pub plain_type : BinaryOp → Place → ExprType → Place → ExprType → Judged ExprType
+unfoldable pub plain_type : BinaryOp → Place → ExprType → Place → ExprType → Judged ExprType
 plain_type op first a second b = do
   taken ← known TypeMismatch first (taken_type op)
   alike taken (given_type op) first a second b
 
 module _ (records : List Member) where
   -- what may be compared with something
-  abbrev pub may_compare : ExprType → Bool
+  unfoldable pub may_compare : ExprType → Bool
   may_compare (Of given) = may_be_null given || is_comparable records given
   may_compare Null = true
   may_compare Markup = false
 
   -- what may be compared with each other: values of one type, or null with what may be null
-  abbrev pub are_compared : ExprType → ExprType → Bool
+  unfoldable pub are_compared : ExprType → ExprType → Bool
   are_compared (Of a) (Of b) = same_type a b && is_comparable records a
   are_compared (Of a) Null = may_be_null a
   are_compared Null (Of b) = may_be_null b
   are_compared Null Null = true
   are_compared _ _ = false
 
-  abbrev pub comparison_type : Place → ExprType → Place → ExprType → Judged ExprType
+  unfoldable pub comparison_type : Place → ExprType → Place → ExprType → Judged ExprType
   comparison_type first a second b =
       if may_compare a then (if are_compared a b then fine (Of t.Bool) else mismatch second) else mismatch first
 
   -- the type of an operator between two operands, each at its place
-  abbrev pub binary_type : BinaryOp → Place → ExprType → Place → ExprType → Judged ExprType
+  unfoldable pub binary_type : BinaryOp → Place → ExprType → Place → ExprType → Judged ExprType
   binary_type binary.Add first a second b = sum_type first a second b
   binary_type binary.Equal first a second b = comparison_type first a second b
   binary_type binary.NotEqual first a second b = comparison_type first a second b
@@ -132,7 +132,7 @@ module _ (records : List Member) where
   binary_type op first a second b = plain_type op first a second b
 
 -- the operator of `+=` and its kin
-abbrev pub operator_of : AssignOp → Option BinaryOp
+unfoldable pub operator_of : AssignOp → Option BinaryOp
 operator_of assign.Set = None
 operator_of assign.Add = Some binary.Add
 operator_of assign.Subtract = Some binary.Subtract

@@ -49,7 +49,7 @@ alone one s = do
   it ← one s
   fine it.code
 
-abbrev pub condition : Value → Scope → Judged Code
+unfoldable pub condition : Value → Scope → Judged Code
 condition a s = do
   x ← a s
   fitting t.Bool x
@@ -60,7 +60,7 @@ initial name None s = breaks NotAssigned name.place
 initial name (Some value) s = value s
 
 -- the type of a local: what is written, or for `var` that of the value
-abbrev pub local_type : Option CsType → Checked → Judged CsType
+unfoldable pub local_type : Option CsType → Checked → Judged CsType
 local_type None x = own_type x.place x.expr_type
 local_type (Some cs_type) x = if fits x.expr_type cs_type then fine cs_type else mismatch x.place
 
@@ -84,8 +84,8 @@ if_else test holds fails s = do
   second ← if_there (λ one. alone one s) fails
   fine (done s (c.If code first second))
 
-unfoldable pub while : Value → Statement → Statement
-while test body s = do
+unfoldable pub while_loop : Value → Statement → Statement
+while_loop test body s = do
   code ← condition test s
   turn ← alone body s
   fine (done s (c.While code turn))
@@ -120,29 +120,36 @@ for_each name list body s = do
   fine (done s (c.ForEach x.code turn))
 
 -- the types by which a `switch` decides
-abbrev pub decides : ExprType → Bool
+unfoldable pub decides : ExprType → Bool
 decides (Of t.Int) = true
 decides (Of t.Bool) = true
 decides (Of t.Text) = true
 decides _ = false
 
--- the constant of a label, if it has one, and whether it is of the type
-abbrev pub labelled : ExprType → Place → LabelKind → Judged (Option Constant)
-labelled (Of t.Int) place (label.Int number) = fine (Some (v.Int number))
-labelled (Of t.Bool) place (label.Bool truth) = fine (Some (v.Bool truth))
-labelled (Of t.Text) place (label.Text text) = fine (Some (v.Text text))
-labelled (Of t.Text) place label.Null = fine (Some v.Null)
-labelled decided place label.Default = fine None
-labelled decided place _ = mismatch place
+-- the constant of a label, if it has one, which has to be of the type; null where it may be null
+abbrev pub labelled : LabelKind → ExprType → Place → Judged (Option Constant)
+labelled label.Default decided place = fine None
+labelled (label.Int number) (Of t.Int) place = fine (Some (v.Int number))
+labelled (label.Int number) _ place = mismatch place
+labelled (label.Bool truth) (Of t.Bool) place = fine (Some (v.Bool truth))
+labelled (label.Bool truth) _ place = mismatch place
+labelled (label.Text text) (Of t.Text) place = fine (Some (v.Text text))
+labelled (label.Text text) _ place = mismatch place
+labelled label.Null (Of t.Text) place = fine (Some v.Null)
+labelled label.Null _ place = mismatch place
 
 -- a constant in front of others, if there is one
 abbrev pub with_constant : Option Constant → List Constant → List Constant
 with_constant None constants = constants
 with_constant (Some constant) constants = constant ∷ constants
 
-abbrev pub constants_of : List (Option Constant) → List Constant
-constants_of [] = []
-constants_of (one ∷ others) = with_constant one (constants_of others)
+-- the constants of labels, in order
+abbrev pub constants : ExprType → List Label → Judged (List Constant)
+constants decided [] = fine []
+constants decided (one ∷ others) = do
+  constant ← labelled one.kind decided one.place
+  more ← constants decided others
+  fine (with_constant constant more)
 
 abbrev pub is_default : LabelKind → Bool
 is_default label.Default = true
@@ -155,9 +162,9 @@ has_default (one ∷ others) = is_default one.kind || has_default others
 -- a section of a `switch` that decides by a type
 unfoldable pub section : List Label → List Statement → ExprType → Scope → Judged Code
 section labels body decided s = do
-  constants ← each (λ one. labelled decided one.place one.kind) labels
+  values ← constants decided labels
   codes ← in_order body s
-  fine (c.Section (constants_of constants) (has_default labels) codes)
+  fine (c.Section values (has_default labels) codes)
 
 unfoldable pub switch_of : Value → List (ExprType → Scope → Judged Code) → Statement
 switch_of a sections s = do

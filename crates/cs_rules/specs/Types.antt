@@ -36,7 +36,7 @@ unfoldable pub same_type : CsType → CsType → Bool
 same_type = fold-CsType (CsType → Bool) (λ level other. same_level level (out-CsType other))
 
 -- the types of which a value may be null
-abbrev pub may_be_null : CsType → Bool
+unfoldable pub may_be_null : CsType → Bool
 may_be_null t.Text = true
 may_be_null (t.Rec name) = true
 may_be_null (t.List' _ _) = true
@@ -44,22 +44,22 @@ may_be_null (t.Fragment' _) = true
 may_be_null _ = false
 
 -- at their roots: a callback without an argument stands where one with an argument is wanted
-abbrev pub drops_argument : CsType-F CsType → CsType-F CsType → Bool
+unfoldable pub drops_argument : CsType-F CsType → CsType-F CsType → Bool
 drops_argument (CsType-F.Callback None) (CsType-F.Callback (Some argument)) = true
 drops_argument _ _ = false
 
 -- whether a value of the first type stands where one of the second is wanted
-abbrev pub fits_type : CsType → CsType → Bool
+unfoldable pub fits_type : CsType → CsType → Bool
 fits_type given wanted = same_type given wanted || drops_argument (out-CsType given) (out-CsType wanted)
 
 -- the same for the type of an expression
-abbrev pub fits : ExprType → CsType → Bool
+unfoldable pub fits : ExprType → CsType → Bool
 fits (Of given) wanted = fits_type given wanted
 fits Null wanted = may_be_null wanted
 fits Markup wanted = false
 
 -- the type of two values of which either may be given
-abbrev pub common_type : ExprType → ExprType → Option ExprType
+unfoldable pub common_type : ExprType → ExprType → Option ExprType
 common_type (Of a) (Of b) = if fits_type a b then Some (Of b) else (if fits_type b a then Some (Of a) else None)
 common_type (Of a) Null = if may_be_null a then Some (Of a) else None
 common_type Null (Of b) = if may_be_null b then Some (Of b) else None
@@ -67,20 +67,20 @@ common_type Null Null = Some Null
 common_type _ _ = None
 
 -- the types of which there are values
-abbrev pub has_values : CsType → Bool
+unfoldable pub has_values : CsType → Bool
 has_values t.Nothing = false
 has_values _ = true
 
 -- what stands at a place has a type that fits
-abbrev pub wants : CsType → Place → ExprType → Judged (Unit {0})
+unfoldable pub wants : CsType → Place → ExprType → Judged (Unit {0})
 wants wanted place given = if fits given wanted then fine tt else mismatch place
 
 -- the code of an expression that fits
-abbrev pub fitting : CsType → Checked → Judged Code
+unfoldable pub fitting : CsType → Checked → Judged Code
 fitting wanted x = if fits x.expr_type wanted then fine x.code else mismatch x.place
 
 -- the type of what has one of its own, and a value
-abbrev pub own_type : Place → ExprType → Judged CsType
+unfoldable pub own_type : Place → ExprType → Judged CsType
 own_type place (Of given) = if has_values given then fine given else mismatch place
 own_type place _ = mismatch place
 

@@ -50,7 +50,7 @@ abbrev pub record_from : ℕ → List ℕ → List Member → Option Declared
 record_from number name [] = None
 record_from number name (one ∷ others) = found_or number (parts_of name one.kind) (record_from (number + 1) name others)
 
-abbrev pub record_named : List Member → List ℕ → Option Declared
+unfoldable pub record_named : List Member → List ℕ → Option Declared
 record_named records name = record_from 0 name records
 
 -- where a type that values of fields, locals and parts may have is none: it names no record, or is for parameters or handlers alone
@@ -70,7 +70,7 @@ abbrev pub known_type : Option Place → CsType → Judged CsType
 known_type (Some place) cs_type = breaks UnknownType place
 known_type None cs_type = fine cs_type
 
-abbrev pub written : List Member → TypeExpr → Judged CsType
+unfoldable pub written : List Member → TypeExpr → Judged CsType
 written records cs_type = known_type (unknown_in records cs_type) (type_of cs_type)
 
 -- whether all parts of a record pass
@@ -88,5 +88,5 @@ compares (suc depth) records (t.Rec name) = all_parts (compares depth records) (
 compares (suc depth) records _ = false
 
 -- records that are no part of themselves are less deep than there are records
-abbrev pub is_comparable : List Member → CsType → Bool
+unfoldable pub is_comparable : List Member → CsType → Bool
 is_comparable records cs_type = compares (length records + 1) records cs_type

@@ -34,6 +34,3 @@ pub use laws::{
 pub use lexer::tokens;
 pub use places::{behind, first_place};
 pub use token::{Sign, Token, TokenKind, Word};
-
-#[cfg(test)]
-mod tests;

@@ -28,6 +28,3 @@ pub use component::{Component, Field, Item, Method};
 pub use laws::a_file_spells_one_component;
 pub use reader::read;
 pub use rendering::{fresh_node, fresh_nodes};
-
-#[cfg(test)]
-mod tests;

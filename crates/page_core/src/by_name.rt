@@ -1,8 +1,8 @@
 // Values by name.
-ghost use Rattle.std.specs.Prelude.{◌≡◌, ◌↔◌, [], length, IsTrue, OnOk, OnErr};
+ghost use Rattle.std.specs.Prelude.{◌≡◌, ◌↔◌, [], length, IsTrue, IfOk, OnOk, OnErr};
 ghost use Rattle.std.specs.BTreeMap.{insert_entry};
 ghost use Rattle.std.specs.Option.{option_copied};
-ghost use Rattle.page_core.specs.ByName.{by_characters, value_of, IsInOrder};
+ghost use Rattle.page_core.specs.ByName.{by_characters, value_of, without, IsInOrder};
 
 use std::alloc::Global;
 use std::collections::BTreeMap;
@@ -72,4 +72,30 @@ impl<V> ByName<V> {
         self.entries.insert(name, value)?;
         Ok(())
     }
+
+    /// Takes away what has this name.
+    pub fn remove(&mut self, name: &Txt) -> Option<V>
+        ensures value { result ≡ value_of self.old name.now }
+        ensures rest { self.new ≡ without self.old name.now }
+    {
+        self.entries.remove(name)
+    }
+}
+
+/// The same attributes once more.
+pub fn copy_attributes(attributes: &Attributes) -> Result<Attributes, Oom>
+    ensures { IfOk result (λ copy. copy ≡ attributes.now) }
+{
+    Ok(ByName {
+        entries: attributes.entries.clone()?,
+    })
+}
+
+/// The same handlers once more.
+pub fn copy_handlers(handlers: &HandlerIds) -> Result<HandlerIds, Oom>
+    ensures { IfOk result (λ copy. copy ≡ handlers.now) }
+{
+    Ok(ByName {
+        entries: handlers.entries.clone()?,
+    })
 }

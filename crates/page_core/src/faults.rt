@@ -1,3 +1,8 @@
+ghost use Rattle.std.specs.Prelude.{◌≡◌};
+ghost use Rattle.page_core.specs.declared.faults.ApplyFault.TheVariants as fault;
+
+use std::alloc::AllocError;
+use text_core::Oom;
 use thiserror::Error;
 
 /// Why bytes spell no batch.
@@ -38,4 +43,20 @@ pub enum ApplyFault {
     Unbalanced,
     #[error("out of memory")]
     Oom,
+}
+
+impl From<Oom> for ApplyFault {
+    ghost from_gives = { λ _ given. given ≡ fault.Oom };
+
+    fn from(_: Oom) -> Self {
+        ApplyFault::Oom
+    }
+}
+
+impl From<AllocError> for ApplyFault {
+    ghost from_gives = { λ _ given. given ≡ fault.Oom };
+
+    fn from(_: AllocError) -> Self {
+        ApplyFault::Oom
+    }
 }

@@ -15,7 +15,7 @@ mod path;
 mod printing;
 mod void;
 
-pub use by_name::{Attributes, ByName, HandlerIds};
+pub use by_name::{Attributes, ByName, HandlerIds, copy_attributes, copy_handlers};
 pub use counts::Counts;
 pub use faults::{ApplyFault, BatchFault};
 pub use node::{Node, Page};

@@ -26,6 +26,3 @@ pub use cutting::pieces;
 pub use fault::RazorFault;
 pub use laws::a_text_is_cut_in_one_way;
 pub use piece::{Piece, PieceKind, Quote};
-
-#[cfg(test)]
-mod tests;

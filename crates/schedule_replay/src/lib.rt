@@ -17,8 +17,3 @@ mod texts;
 pub use reading::read_schedule;
 pub use replaying::replay;
 pub use schedule::{Schedule, ScheduleFault, Step, UserStep};
-
-#[cfg(test)]
-mod replay_tests;
-#[cfg(test)]
-mod tests;

@@ -1,0 +1,370 @@
+// The tokens of short texts, and the first faults in them.
+use cs_token::{LexFault, Sign, Token, TokenKind, Word, tokens};
+use std::alloc::Global;
+use std::test::Fail;
+use text_core::{Oom, Place, Txt, show_i32};
+
+/// The most bytes that a text has whose tokens are asked for.
+const BYTES: usize = 1_048_576;
+
+fn lexed(alloc: Global, text: &str) -> Result<Vec<Token>, LexFault> {
+    let text = Txt::from_str(alloc, text)?;
+    if text.as_str().len() > BYTES {
+        return Err(LexFault::Oom);
+    }
+    tokens(alloc, &text)
+}
+
+/// A token in a few characters: a name as it is, a number behind `#`, a text between `"`, a part of an interpolated text
+/// between `'`, a word behind `:`, a sign as it is written, but `<{` and `}>` for the braces of a hole and `">` for the end.
+fn push_kind(alloc: Global, line: &mut Txt, kind: &TokenKind) -> Result<(), Oom> {
+    match kind {
+        TokenKind::Name(name) => line.push_text(name),
+        TokenKind::Number(number) => {
+            line.push('#')?;
+            line.push_text(&show_i32(alloc, *number)?)
+        }
+        TokenKind::Text(text) => push_between(line, '"', text),
+        TokenKind::Part(text) => push_between(line, '\'', text),
+        TokenKind::Word(word) => {
+            line.push(':')?;
+            line.push_str(word.spelling())
+        }
+        TokenKind::Sign(Sign::HoleOpen) => line.push_str("<{"),
+        TokenKind::Sign(Sign::HoleClose) => line.push_str("}>"),
+        TokenKind::Sign(Sign::InterpolationEnd) => line.push_str("\">"),
+        TokenKind::Sign(sign) => push_characters(line, sign.mark()),
+    }
+}
+
+fn push_between(line: &mut Txt, quote: char, text: &Txt) -> Result<(), Oom> {
+    line.push(quote)?;
+    line.push_text(text)?;
+    line.push(quote)
+}
+
+fn push_characters(line: &mut Txt, characters: &[char]) -> Result<(), Oom> {
+    for character in characters {
+        line.push(*character)?;
+    }
+    Ok(())
+}
+
+/// The tokens one after another, with a space between them.
+fn shown(alloc: Global, tokens: &[Token]) -> Result<Txt, Oom> {
+    let mut line = Txt::new(alloc);
+    for (at, token) in tokens.iter().enumerate() {
+        if at > 0 {
+            line.push(' ')?;
+        }
+        push_kind(alloc, &mut line, &token.kind)?;
+    }
+    Ok(line)
+}
+
+#[test]
+fn reads_tokens(rt: HostRuntime) -> Result<(), Fail> {
+    let alloc = rt.alloc();
+    for (text, expected) in [
+        ("", ""),
+        (" \t\r\n ", ""),
+        ("x", "x"),
+        ("_a9 Z", "_a9 Z"),
+        ("0 007 42 2147483647", "#0 #7 #42 #2147483647"),
+        ("1a", "#1 a"),
+        ("1.5", "#1 . #5"),
+        ("1L", "#1 L"),
+        ("int x = 1;", ":int x = #1 ;"),
+        ("intx int_ Int iN", "intx int_ Int iN"),
+        ("record with", "record with"),
+        ("a?.b ?? c ? d : e", "a ?. b ?? c ? d : e"),
+        ("a?.5:b", "a ?. #5 : b"),
+        (
+            "ImmutableList<ImmutableList<int>>",
+            ":ImmutableList < :ImmutableList < :int > >",
+        ),
+        ("a+++b--- -c", "a ++ + b -- - - c"),
+        ("a<=b>=c==d!=e=>f", "a <= b >= c == d != e => f"),
+        ("!a&&b||c", "! a && b || c"),
+        ("a===b", "a == = b"),
+        ("///\nx", "x"),
+        ("a // b \"\n/c", "a / c"),
+        ("a//", "a"),
+        ("a/* b */c/**/d/***/e/*/*/f", "a c d e f"),
+        ("/* \n */ x", "x"),
+        ("a / *b", "a / * b"),
+    ] {
+        let tokens = lexed(alloc, text)?;
+        assert_eq!(rt; shown(alloc, &tokens)?.as_str(), expected, "{text:?}");
+    }
+    Ok(())
+}
+
+#[test]
+fn reads_texts(rt: HostRuntime) -> Result<(), Fail> {
+    let alloc = rt.alloc();
+    for (text, expected) in [
+        ("\"\"", "\"\""),
+        ("\"a b\"c", "\"a b\" c"),
+        ("\"{}//'\"", "\"{}//'\""),
+        ("\"é日𝄞\"", "\"é日𝄞\""),
+        ("\"a\rb\"", "\"a\rb\""),
+        (r#""\\""#, r#""\""#),
+        (r#""\"""#, r#"""""#),
+        (r#""\'""#, r#""'""#),
+        (r#""\0""#, "\"\0\""),
+        (r#""\n""#, "\"\n\""),
+        (r#""\r""#, "\"\r\""),
+        (r#""\t""#, "\"\t\""),
+        (r#""\u0041\u00e9\u00E9\uFFFD""#, "\"Aéé\u{FFFD}\""),
+        (r#""\u00411""#, "\"A1\""),
+        (r#""\uD7FF\uE000""#, "\"\u{D7FF}\u{E000}\""),
+    ] {
+        let tokens = lexed(alloc, text)?;
+        assert_eq!(rt; shown(alloc, &tokens)?.as_str(), expected, "{text:?}");
+    }
+    Ok(())
+}
+
+#[test]
+fn reads_interpolated_texts(rt: HostRuntime) -> Result<(), Fail> {
+    let alloc = rt.alloc();
+    for (text, expected) in [
+        ("$\"\"", "$\" \">"),
+        ("$\"a\"", "$\" 'a' \">"),
+        ("$\"{x}\"", "$\" <{ x }> \">"),
+        ("$\"a{x}b{ y }c\";", "$\" 'a' <{ x }> 'b' <{ y }> 'c' \"> ;"),
+        ("$\"{{{x}}}\"", "$\" '{' <{ x }> '}' \">"),
+        ("$\"{{}}\"", "$\" '{}' \">"),
+        (r#"$"\"\n{x}\u0041""#, "$\" '\"\n' <{ x }> 'A' \">"),
+        ("$\"{\"}\"}\"", "$\" <{ \"}\" }> \">"),
+        ("$\"{$\"{x}\"}\"", "$\" <{ $\" <{ x }> \"> }> \">"),
+        ("$\"{a with { B = 1 }}\"", "$\" <{ a with { B = #1 } }> \">"),
+        ("$\"{ /* } */ x /**/ }\"", "$\" <{ x }> \">"),
+        ("$\"{x:y}{x,5}\"", "$\" <{ x : y }> <{ x , #5 }> \">"),
+        ("{ $\"{x}\" }", "{ $\" <{ x }> \"> }"),
+        ("$\"//{x}/*\"", "$\" '//' <{ x }> '/*' \">"),
+    ] {
+        let tokens = lexed(alloc, text)?;
+        assert_eq!(rt; shown(alloc, &tokens)?.as_str(), expected, "{text:?}");
+    }
+    Ok(())
+}
+
+#[test]
+fn knows_every_word(rt: HostRuntime) -> Result<(), Fail> {
+    let alloc = rt.alloc();
+    for (text, word) in [
+        ("async", Word::Async),
+        ("await", Word::Await),
+        ("bool", Word::Bool),
+        ("break", Word::Break),
+        ("case", Word::Case),
+        ("continue", Word::Continue),
+        ("default", Word::Default),
+        ("else", Word::Else),
+        ("false", Word::False),
+        ("for", Word::For),
+        ("foreach", Word::Foreach),
+        ("if", Word::If),
+        ("in", Word::In),
+        ("int", Word::Int),
+        ("internal", Word::Internal),
+        ("new", Word::New),
+        ("null", Word::Null),
+        ("override", Word::Override),
+        ("private", Word::Private),
+        ("protected", Word::Protected),
+        ("public", Word::Public),
+        ("return", Word::Return),
+        ("string", Word::String),
+        ("switch", Word::Switch),
+        ("true", Word::True),
+        ("var", Word::Var),
+        ("void", Word::Void),
+        ("while", Word::While),
+        ("Task", Word::Task),
+        ("MarkupString", Word::MarkupString),
+        ("ImmutableList", Word::ImmutableList),
+        ("EventCallback", Word::EventCallback),
+        ("RenderFragment", Word::RenderFragment),
+        ("ChangeEventArgs", Word::ChangeEventArgs),
+        ("EventArgs", Word::EventArgs),
+        ("MouseEventArgs", Word::MouseEventArgs),
+        ("KeyboardEventArgs", Word::KeyboardEventArgs),
+        ("FocusEventArgs", Word::FocusEventArgs),
+    ] {
+        let tokens = lexed(alloc, text)?;
+        assert_eq!(rt; tokens.len(), 1, "{text:?}");
+        assert!(rt; tokens[0].kind == TokenKind::Word(word), "{text:?}");
+        let spelled = Txt::from_str(alloc, text)?;
+        assert!(rt; spelled.is(word.spelling()), "{text:?}");
+    }
+    Ok(())
+}
+
+#[test]
+fn knows_every_sign(rt: HostRuntime) -> Result<(), Fail> {
+    let alloc = rt.alloc();
+    for (text, sign) in [
+        ("(", Sign::OpenRound),
+        (")", Sign::CloseRound),
+        ("[", Sign::OpenSquare),
+        ("]", Sign::CloseSquare),
+        ("{", Sign::OpenBrace),
+        ("}", Sign::CloseBrace),
+        (",", Sign::Comma),
+        (";", Sign::Semicolon),
+        (".", Sign::Dot),
+        ("?.", Sign::QuestionDot),
+        ("?", Sign::Question),
+        ("??", Sign::QuestionQuestion),
+        (":", Sign::Colon),
+        ("=", Sign::Assign),
+        ("+=", Sign::AddAssign),
+        ("-=", Sign::SubtractAssign),
+        ("*=", Sign::MultiplyAssign),
+        ("/=", Sign::DivideAssign),
+        ("%=", Sign::RemainderAssign),
+        ("==", Sign::Equal),
+        ("!=", Sign::NotEqual),
+        ("<", Sign::Less),
+        (">", Sign::Greater),
+        ("<=", Sign::LessOrEqual),
+        (">=", Sign::GreaterOrEqual),
+        ("+", Sign::Plus),
+        ("-", Sign::Minus),
+        ("*", Sign::Star),
+        ("/", Sign::Slash),
+        ("%", Sign::Percent),
+        ("++", Sign::PlusPlus),
+        ("--", Sign::MinusMinus),
+        ("!", Sign::Not),
+        ("&&", Sign::And),
+        ("||", Sign::Or),
+        ("=>", Sign::Arrow),
+    ] {
+        let tokens = lexed(alloc, text)?;
+        assert_eq!(rt; tokens.len(), 1, "{text:?}");
+        assert!(rt; tokens[0].kind == TokenKind::Sign(sign), "{text:?}");
+    }
+    Ok(())
+}
+
+#[test]
+fn tells_spans_and_places(rt: HostRuntime) -> Result<(), Fail> {
+    let alloc = rt.alloc();
+    let tokens = lexed(alloc, " = \"\\n\";\r\n\t$\"a{1}\"")?;
+    let spans = [
+        (1, 2, 1, 2),
+        (3, 7, 1, 4),
+        (7, 8, 1, 8),
+        (11, 13, 2, 2),
+        (13, 14, 2, 4),
+        (14, 15, 2, 5),
+        (15, 16, 2, 6),
+        (16, 17, 2, 7),
+        (17, 18, 2, 8),
+    ];
+    assert_eq!(rt; tokens.len(), spans.len());
+    for (token, (start, end, line, column)) in tokens.iter().zip(spans) {
+        assert_eq!(rt; (token.start, token.end), (start, end));
+        assert_eq!(rt; token.place, Place { line, column });
+    }
+    Ok(())
+}
+
+fn at(line: u32, column: u32) -> Place {
+    Place { line, column }
+}
+
+fn bad_character(line: u32, column: u32) -> LexFault {
+    LexFault::BadCharacter {
+        place: at(line, column),
+    }
+}
+
+fn unended_text(line: u32, column: u32) -> LexFault {
+    LexFault::UnendedText {
+        place: at(line, column),
+    }
+}
+
+fn unended_comment(line: u32, column: u32) -> LexFault {
+    LexFault::UnendedComment {
+        place: at(line, column),
+    }
+}
+
+fn number_too_wide(line: u32, column: u32) -> LexFault {
+    LexFault::NumberTooWide {
+        place: at(line, column),
+    }
+}
+
+#[test]
+fn finds_the_first_fault(rt: HostRuntime) {
+    let alloc = rt.alloc();
+    for (text, fault) in [
+        ("#", bad_character(1, 1)),
+        ("a\n  #", bad_character(2, 3)),
+        ("\r#", bad_character(1, 2)),
+        ("é", bad_character(1, 1)),
+        ("\"é\" é", bad_character(1, 5)),
+        ("'a'", bad_character(1, 1)),
+        ("a & b", bad_character(1, 3)),
+        ("a|b", bad_character(1, 2)),
+        ("&&&", bad_character(1, 3)),
+        ("$ \"\"", bad_character(1, 1)),
+        ("@x", bad_character(1, 1)),
+        ("\\", bad_character(1, 1)),
+        ("\"a", unended_text(1, 1)),
+        ("a \"b\nc\"", unended_text(1, 3)),
+        ("\n \"", unended_text(2, 2)),
+        ("/* a", unended_comment(1, 1)),
+        ("/*/", unended_comment(1, 1)),
+        ("1\n/**\n*", unended_comment(2, 1)),
+        ("2147483648", number_too_wide(1, 1)),
+        ("a 99999999999999999999", number_too_wide(1, 3)),
+        (r#""\q""#, bad_character(1, 2)),
+        (r#""a\x""#, bad_character(1, 3)),
+        (r#""\"#, bad_character(1, 2)),
+        (r#""\u12G4""#, bad_character(1, 2)),
+        (r#""\u123""#, bad_character(1, 2)),
+        (r#""\uD800""#, bad_character(1, 2)),
+        (r#""\uDFFF""#, bad_character(1, 2)),
+        ("$\"}\"", bad_character(1, 3)),
+        ("$\"a\\q\"", bad_character(1, 4)),
+        ("$\"{#}\"", bad_character(1, 4)),
+        ("$\"{2147483648}\"", number_too_wide(1, 4)),
+        ("$\"a", unended_text(1, 1)),
+        ("x\n$\"a{b", unended_text(2, 1)),
+        ("$\"{x\n}\"", unended_text(1, 1)),
+        ("$\"{a{b}\"", unended_text(1, 1)),
+        ("$\"{ \"a", unended_text(1, 1)),
+        ("$\"{$\"{\n", unended_text(1, 1)),
+        ("$\"{$\"a\"}b", unended_text(1, 1)),
+        ("$\"\" $\"", unended_text(1, 5)),
+        ("$\"{/* a", unended_text(1, 1)),
+        ("$\"{/*\n*/x}\"", unended_text(1, 1)),
+        ("$\"{x // }\"", unended_text(1, 1)),
+        ("# \"", bad_character(1, 1)),
+    ] {
+        assert_eq!(rt; lexed(alloc, text).err(), Some(fault), "{text:?}");
+    }
+}
+
+#[test]
+fn names_faults(rt: HostRuntime) -> Result<(), Fail> {
+    let alloc = rt.alloc();
+    for (fault, line) in [
+        (bad_character(1, 1), "a character that is part of no token"),
+        (unended_text(1, 1), "a text that isn't closed in its line"),
+        (unended_comment(1, 1), "a comment that isn't closed"),
+        (number_too_wide(1, 1), "a number above 2147483647"),
+        (LexFault::Oom, "out of memory"),
+    ] {
+        assert_eq!(rt; fault.to_string(alloc)?.as_str(), line);
+    }
+    Ok(())
+}
