@@ -16,12 +16,19 @@ use sqlite_items::Items;
 use std::alloc::Global;
 use text_core::{Place, Txt};
 
+/// Whether they are white space alone.
+fn are_white(characters: &[char]) -> bool
+    ensures { result ≡ literals.is_white characters.now }
+{
+    characters.iter().all(|c| Class::White.has(*c))
+}
+
 /// Whether the text is white space alone.
 fn is_white(alloc: Global, text: &Txt) -> Result<bool, Unread>
     ensures { Gives (λ b. b) result (Some (literals.is_white text.now)) }
 {
     let characters = text.to_chars(alloc)?;
-    Ok(characters.iter().all(|c| Class::White.has(*c)))
+    Ok(are_white(&characters))
 }
 
 /// Whether the text stays between two edges, or between what is none.
@@ -35,12 +42,19 @@ fn is_kept(alloc: Global, before: bool, behind: bool, text: &Txt) -> Result<bool
     Ok(!(white && (before || behind)))
 }
 
+/// Whether an ampersand is one of them.
+fn has_ampersand(characters: &[char]) -> bool
+    ensures { result ≡ literals.is_raw characters.now }
+{
+    characters.iter().any(|c| *c == '&')
+}
+
 /// Whether an ampersand stands in the text.
 fn is_raw(alloc: Global, text: &Txt) -> Result<bool, Unread>
     ensures { Gives (λ b. b) result (Some (literals.is_raw text.now)) }
 {
     let characters = text.to_chars(alloc)?;
-    Ok(characters.iter().any(|c| *c == '&'))
+    Ok(has_ampersand(&characters))
 }
 
 /// The node of a literal text.

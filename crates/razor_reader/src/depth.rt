@@ -5,11 +5,10 @@ ghost use Rattle.razor_ast.specs.Nesting as nesting;
 ghost use Rattle.razor_ast.specs.Nesting.{too_deep, open_before};
 
 use crate::tokens::{closes, opens};
-use crate::unread::Unread;
 use cs_token::{Sign, Token, TokenKind, Word};
 use razor_token::{Piece, PieceKind};
 use std::alloc::Global;
-use text_core::Place;
+use text_core::{Oom, Place};
 
 #[tactic(auto, unfolding(cs_grammar::specs::Nesting::parts))]
 fn parts(sign: Sign) -> bool
@@ -42,7 +41,7 @@ fn is_else(word: Word) -> bool
 }
 
 /// One more is open.
-fn enter(counts: &mut Vec<u32>) -> Result<(), Unread>
+fn enter(counts: &mut Vec<u32>) -> Result<(), Oom>
     ensures { OnOk result (reverse counts.new.items ≡ 1 ∷ reverse counts.old.items) }
 {
     counts.push(1)?;
@@ -57,7 +56,7 @@ fn leave(counts: &mut Vec<u32>)
 }
 
 /// The innermost counts itself alone.
-fn restart(counts: &mut Vec<u32>) -> Result<(), Unread>
+fn restart(counts: &mut Vec<u32>) -> Result<(), Oom>
     ensures { OnOk result (reverse counts.new.items ≡ code.begun (reverse counts.old.items)) }
 {
     match counts.pop() {
@@ -70,12 +69,12 @@ fn restart(counts: &mut Vec<u32>) -> Result<(), Unread>
 }
 
 /// The innermost counts one more.
-fn count_more(counts: &mut Vec<u32>) -> Result<(), Unread>
+fn count_more(counts: &mut Vec<u32>) -> Result<(), Oom>
     ensures { OnOk result (reverse counts.new.items ≡ code.counted (reverse counts.old.items)) }
 {
     match counts.pop() {
         Some(n) => {
-            counts.push(n.checked_add(1).ok_or(Unread::Oom)?)?;
+            counts.push(n.checked_add(1).ok_or(Oom)?)?;
             Ok(())
         }
         None => Ok(()),
@@ -83,7 +82,7 @@ fn count_more(counts: &mut Vec<u32>) -> Result<(), Unread>
 }
 
 /// Counts a sign.
-fn count_sign(counts: &mut Vec<u32>, sign: Sign) -> Result<(), Unread>
+fn count_sign(counts: &mut Vec<u32>, sign: Sign) -> Result<(), Oom>
     ensures { OnOk result (reverse counts.new.items ≡ code.behind_sign sign (reverse counts.old.items)) }
 {
     if opens(sign) {
@@ -103,7 +102,7 @@ fn count_sign(counts: &mut Vec<u32>, sign: Sign) -> Result<(), Unread>
 }
 
 /// Counts a token.
-fn count_token(counts: &mut Vec<u32>, kind: &TokenKind) -> Result<(), Unread>
+fn count_token(counts: &mut Vec<u32>, kind: &TokenKind) -> Result<(), Oom>
     ensures { OnOk result (reverse counts.new.items ≡ code.behind kind.now (reverse counts.old.items)) }
 {
     match kind {
@@ -120,7 +119,7 @@ fn count_token(counts: &mut Vec<u32>, kind: &TokenKind) -> Result<(), Unread>
 }
 
 /// Counts a piece.
-fn count_piece(counts: &mut Vec<u32>, kind: &PieceKind) -> Result<(), Unread>
+fn count_piece(counts: &mut Vec<u32>, kind: &PieceKind) -> Result<(), Oom>
     ensures { OnOk result (reverse counts.new.items ≡ nesting.behind kind.now (reverse counts.old.items)) }
 {
     match kind {
@@ -154,7 +153,7 @@ fn is_too_deep(counts: &[u32]) -> bool
 }
 
 /// The first place of the pieces at which the nesting is above 200.
-pub fn first_too_deep(alloc: Global, pieces: &[Piece]) -> Result<Option<Place>, Unread>
+pub fn first_too_deep(alloc: Global, pieces: &[Piece]) -> Result<Option<Place>, Oom>
     ensures { IfOk result (λ place. place ≡ nesting.too_deep_from [] pieces.now) }
 {
     let mut counts: Vec<u32> = Vec::new(alloc);
@@ -168,7 +167,7 @@ pub fn first_too_deep(alloc: Global, pieces: &[Piece]) -> Result<Option<Place>, 
 }
 
 /// What is open behind all pieces that begin before this character.
-pub fn open_before(alloc: Global, start: u32, pieces: &[Piece]) -> Result<Vec<u32>, Unread>
+pub fn open_before(alloc: Global, start: u32, pieces: &[Piece]) -> Result<Vec<u32>, Oom>
     ensures { IfOk result (λ counts. reverse counts.items ≡ open_before start [] pieces.now) }
 {
     let mut counts: Vec<u32> = Vec::new(alloc);
@@ -182,7 +181,7 @@ pub fn open_before(alloc: Global, start: u32, pieces: &[Piece]) -> Result<Vec<u3
 }
 
 /// Whether the tokens nest too deep somewhere, with these open round them.
-pub fn nests_too_deep(mut counts: Vec<u32>, tokens: &[Token]) -> Result<bool, Unread>
+pub fn nests_too_deep(mut counts: Vec<u32>, tokens: &[Token]) -> Result<bool, Oom>
     ensures { IfOk result (λ deep. deep ≡ is_some (code.too_deep_from (reverse counts.items) tokens.now)) }
 {
     for t in tokens {

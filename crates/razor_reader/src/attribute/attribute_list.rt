@@ -75,10 +75,7 @@ fn context<'a>(alloc: Global, number: u32, pieces: &'a [Piece]) -> Meaning<'a>
     let next = next_number(number)?;
     let inner = after(pieces, Mark::ValueStart)?;
     let (text, rest) = text_value(alloc, inner)?;
-    let Ok(is_name) = is_name_text(alloc, &text) else {
-        return Err(Unread::Oom);
-    };
-    if !is_name {
+    if !is_name_text(alloc, &text)? {
         return Err(Unread::Syntax(inner.len()));
     }
     let name = Ident {
@@ -94,9 +91,7 @@ fn text<'a>(alloc: Global, all: &[Piece], start: u32, inner: &'a [Piece]) -> Fro
 {
     let place = place_first(inner);
     let (text, rest) = text_value(alloc, inner)?;
-    let Ok(expression) = text_expression(alloc, all, start, place, &text) else {
-        return Err(Unread::Oom);
-    };
+    let expression = text_expression(alloc, all, start, place, &text)?;
     let given = Given::Text {
         place,
         text,

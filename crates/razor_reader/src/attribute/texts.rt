@@ -12,23 +12,23 @@ use cs_ast::Expr;
 use cs_token::{LexFault, Token, TokenKind, tokens};
 use razor_token::Piece;
 use std::alloc::Global;
-use text_core::{Place, Txt};
+use text_core::{Oom, Place, Txt};
 
 /// The most bytes that a text has whose tokens are asked for; a whole file has no more.
 const BYTES: usize = 1_048_576;
 
 /// A place of a text that begins at another place.
-fn place_from(begin: Place, place: Place) -> Result<Place, Unread>
+fn place_from(begin: Place, place: Place) -> Result<Place, Oom>
     ensures { IfOk result (λ p. p ≡ values.place_from begin place) }
 {
     if place.line == 1 {
-        let sum = begin.column.checked_add(place.column).ok_or(Unread::Oom)?;
+        let sum = begin.column.checked_add(place.column).ok_or(Oom)?;
         return Ok(Place {
             line: begin.line,
             column: sum.saturating_sub(1),
         });
     }
-    let sum = begin.line.checked_add(place.line).ok_or(Unread::Oom)?;
+    let sum = begin.line.checked_add(place.line).ok_or(Oom)?;
     Ok(Place {
         line: sum.saturating_sub(1),
         column: place.column,
@@ -36,7 +36,7 @@ fn place_from(begin: Place, place: Place) -> Result<Place, Unread>
 }
 
 /// A token of a text that begins at this place.
-fn token_from(begin: Place, token: Token) -> Result<Token, Unread>
+fn token_from(begin: Place, token: Token) -> Result<Token, Oom>
     ensures { IfOk result (λ t. t ≡ values.token_from begin token) }
 {
     let place = place_from(begin, token.place)?;
@@ -47,11 +47,11 @@ fn token_from(begin: Place, token: Token) -> Result<Token, Unread>
 
 /// The tokens of a text, if it spells any.
 #[tactic(auto, using(crate::proofs::LexLemmas::spelled_is, crate::proofs::LexLemmas::wrong_is))]
-fn spelled_tokens(alloc: Global, text: &Txt) -> Result<Option<Vec<Token>>, Unread>
+fn spelled_tokens(alloc: Global, text: &Txt) -> Result<Option<Vec<Token>>, Oom>
     ensures { IfOk result (λ found. spec.items_of found ≡ spec.spelled_tokens text.now) }
 {
     if text.as_str().len() > BYTES {
-        return Err(Unread::Oom);
+        return Err(Oom);
     }
     match tokens(alloc, text) {
         Ok(spelled) => Ok(Some(spelled)),
@@ -59,12 +59,12 @@ fn spelled_tokens(alloc: Global, text: &Txt) -> Result<Option<Vec<Token>>, Unrea
         Err(LexFault::UnendedText { .. }) => Ok(None),
         Err(LexFault::UnendedComment { .. }) => Ok(None),
         Err(LexFault::NumberTooWide { .. }) => Ok(None),
-        Err(LexFault::Oom) => Err(Unread::Oom),
+        Err(LexFault::Oom) => Err(Oom),
     }
 }
 
 /// The tokens of a text that begins at this place.
-fn tokens_from(alloc: Global, begin: Place, tokens: Vec<Token>) -> Result<Vec<Token>, Unread>
+fn tokens_from(alloc: Global, begin: Place, tokens: Vec<Token>) -> Result<Vec<Token>, Oom>
     ensures { IfOk result (λ moved. moved.items ≡ map (values.token_from begin) tokens.items) }
 {
     let mut moved = Vec::new(alloc);
@@ -75,7 +75,7 @@ fn tokens_from(alloc: Global, begin: Place, tokens: Vec<Token>) -> Result<Vec<To
 }
 
 /// The tokens of a text that begins at this place, if it spells any.
-fn text_tokens(alloc: Global, begin: Place, text: &Txt) -> Result<Option<Vec<Token>>, Unread>
+fn text_tokens(alloc: Global, begin: Place, text: &Txt) -> Result<Option<Vec<Token>>, Oom>
     ensures { IfOk result (λ found. spec.items_of found ≡ spec.text_tokens begin text.now) }
 {
     match spelled_tokens(alloc, text)? {
@@ -91,7 +91,7 @@ pub fn text_expression(
     start: u32,
     begin: Place,
     text: &Txt,
-) -> Result<Option<Expr>, Unread>
+) -> Result<Option<Expr>, Oom>
     ensures { IfOk result (λ a. a ≡ spec.text_expression (open_before start [] all.now) begin text.now) }
 {
     let Some(tokens) = text_tokens(alloc, begin, text)? else {
@@ -103,12 +103,12 @@ pub fn text_expression(
     match spelled(alloc, &tokens, &[]) {
         Ok(a) => Ok(Some(a)),
         Err(Unread::Syntax(_)) => Ok(None),
-        Err(Unread::Oom) => Err(Unread::Oom),
+        Err(Unread::Oom) => Err(Oom),
     }
 }
 
 /// Whether the text is a name and nothing more.
-pub fn is_name_text(alloc: Global, text: &Txt) -> Result<bool, Unread>
+pub fn is_name_text(alloc: Global, text: &Txt) -> Result<bool, Oom>
     ensures { IfOk result (λ is. is ≡ spec.is_name_text text.now) }
 {
     let Some(tokens) = text_tokens(alloc, Place { line: 1, column: 1 }, text)? else {
