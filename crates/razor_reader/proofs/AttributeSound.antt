@@ -29,7 +29,8 @@ use Rattle.razor_reader.specs.Reading.{Read, Numbered, ◌>>=◌, has, after}
 use Rattle.razor_reader.specs.NameReading.{name_form}
 use Rattle.razor_reader.specs.TextReading.{text_expression, is_name_text}
 use Rattle.razor_reader.specs.AttributeReading as r
-use Rattle.razor_reader.proofs.MarkLemmas.{taken, of_space, value_start}
+use Rattle.razor_reader.proofs.MarkKinds.{of_space}
+use Rattle.razor_reader.proofs.MarkLemmas.{taken, value_start}
 use Rattle.razor_reader.proofs.NameSound.{FormOf, form_of}
 use Rattle.razor_reader.proofs.NameSound as name
 use Rattle.razor_reader.proofs.ReadLemmas.{bind_ok, moved, where_true, by_test, same_text}

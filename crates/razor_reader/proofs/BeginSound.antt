@@ -38,7 +38,8 @@ use Rattle.razor_reader.specs.StatementReading.{nowhere, statement}
 use Rattle.razor_reader.specs.BeginReading as r
 use Rattle.razor_reader.specs.ContentReading.{end_tag_by, end_tag, end_of_tag, end_of_group, end_of_line, end_of, is_text_end}
 use Rattle.razor_reader.proofs.ReadLemmas.{bind_ok, moved, where_true, where_not, by_test, same_text}
-use Rattle.razor_reader.proofs.MarkLemmas.{taken, piece_sure, of_space, of_content_start, of_empty_tag_end, of_end_tag_end, of_line_end, of_open_brace, of_if}
+use Rattle.razor_reader.proofs.MarkKinds.{of_space, of_content_start, of_empty_tag_end, of_end_tag_end, of_line_end, of_open_brace, of_if}
+use Rattle.razor_reader.proofs.MarkLemmas.{taken, piece_sure}
 use Rattle.razor_reader.proofs.NameSound.{element_name_sound}
 use Rattle.razor_reader.proofs.AttributeSound.{attributes_sound}
 use Rattle.razor_reader.proofs.ValueSound.{shown_first_sound}

@@ -40,7 +40,8 @@ use Rattle.razor_reader.specs.TokenReading.{between}
 use Rattle.razor_reader.specs.CodeReading.{flat, is_lambda, is_plain, is_markup, is_name, begins_with_name}
 use Rattle.razor_reader.specs.CodeReading as r
 use Rattle.razor_reader.proofs.ReadLemmas.{bind_ok, moved, where_true, where_false, by_test}
-use Rattle.razor_reader.proofs.MarkLemmas.{token_sure, token_open_round, token_close_round, token_open_brace, token_close_brace}
+use Rattle.razor_reader.proofs.MarkKinds.{token_open_round, token_close_round, token_open_brace, token_close_brace}
+use Rattle.razor_reader.proofs.MarkLemmas.{token_sure}
 use Rattle.razor_reader.proofs.TokenSound.{Between, between_whole}
 
 -- what is read of tokens that are flat

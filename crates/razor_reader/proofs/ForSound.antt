@@ -21,7 +21,8 @@ use Rattle.razor_reader.specs.Reading.{◌>>=◌}
 use Rattle.razor_reader.specs.CodeReading.{plain, simple}
 use Rattle.razor_reader.specs.HeadReading as r
 use Rattle.razor_reader.proofs.ReadLemmas.{bind_ok, moved}
-use Rattle.razor_reader.proofs.MarkLemmas.{token_sure, token_semicolon}
+use Rattle.razor_reader.proofs.MarkKinds.{token_semicolon}
+use Rattle.razor_reader.proofs.MarkLemmas.{token_sure}
 use Rattle.razor_reader.proofs.CodeSound.{plain_sound}
 use Rattle.razor_reader.proofs.SimpleSound.{simple_of}
 use Rattle.razor_reader.proofs.CutLemmas.{Cut, cut_spells, cut_acts, cut_simple}

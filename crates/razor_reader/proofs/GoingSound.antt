@@ -45,7 +45,8 @@ use Rattle.razor_reader.specs.ContentReading.{with_text, edge_of, item_edge, end
 use Rattle.razor_reader.specs.ContentReading as c
 use Rattle.razor_reader.specs.GoingReading as r
 use Rattle.razor_reader.proofs.ReadLemmas.{bind_ok, moved, where_true, where_not, by_test}
-use Rattle.razor_reader.proofs.MarkLemmas.{taken, of_close_brace, of_else}
+use Rattle.razor_reader.proofs.MarkKinds.{of_close_brace, of_else}
+use Rattle.razor_reader.proofs.MarkLemmas.{taken}
 use Rattle.razor_reader.proofs.HeadSound.{labels_sound}
 use Rattle.razor_reader.proofs.StageTypes.{given, Stage, After, OfContent, OfBlock, OfSwitch, OfSection}
 

@@ -29,7 +29,8 @@ use Rattle.razor_reader.specs.TokenReading.{code_to}
 use Rattle.razor_reader.specs.CodeReading.{plain}
 use Rattle.razor_reader.specs.HeadReading as r
 use Rattle.razor_reader.proofs.ReadLemmas.{bind_ok, moved, where_not, where_neither}
-use Rattle.razor_reader.proofs.MarkLemmas.{token_sure, token_colon, token_case, token_default, token_minus, token_var, token_in}
+use Rattle.razor_reader.proofs.MarkKinds.{token_colon, token_case, token_default, token_minus, token_var, token_in}
+use Rattle.razor_reader.proofs.MarkLemmas.{token_sure}
 use Rattle.razor_reader.proofs.TokenSound.{To, code_to_whole}
 use Rattle.razor_reader.proofs.CodeSound.{plain_sound}
 

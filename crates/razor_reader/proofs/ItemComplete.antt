@@ -1,17 +1,11 @@
 -- What spells an item is read, over any frames.
-use Rattle.std.proofs.Common.{◌≡◌, ℕ, ◌+◌, ◌-◌, ◌*◌, ◌<◌, ◌≤◌, List, [], ◌∷◌, ◌++◌, length, refl, sym, ap, ◌∙◌, subst, arith}
-use Rattle.std.specs.Prelude.{Bool, true, false, not, ◌&&◌, codes, if◌then◌else◌, Option, Some, None}
-use Rattle.std.specs.Str.{bytes_eq}
-use Rattle.std.proofs.lemmas.Slice.Eq.{bytes_eq-Decides}
+use Rattle.std.proofs.Common.{◌≡◌, ℕ, ◌+◌, ◌-◌, ◌*◌, ◌≤◌, List, [], ◌∷◌, length, refl, ap, ◌∙◌, subst, arith}
+use Rattle.std.specs.Prelude.{Bool, true, false, not, codes, if◌then◌else◌, Option, Some, None}
 use Rattle.text_core.specs.declared.place.Place.{Place}
 use Rattle.cs_ast.specs.declared.expression.Expr.{Expr}
-use Rattle.cs_ast.specs.declared.expression.Stmt.{Stmt}
-use Rattle.cs_token.specs.declared.token.Token.{Token}
-use Rattle.cs_token.specs.declared.token.TokenKind.{TokenKind}
 use Rattle.cs_token.specs.declared.token.TokenKind.TheVariants as tk
 use Rattle.cs_token.specs.declared.token.Sign.TheVariants as s
 use Rattle.cs_token.specs.declared.token.Word.TheVariants as w
-use Rattle.cs_grammar.specs.Expressions.{SpelledExpression}
 use Rattle.cs_grammar.specs.Statements as cs
 use Rattle.cs_grammar.specs.Tokens.{ident}
 use Rattle.razor_token.specs.Tags.{is_component}
@@ -24,7 +18,6 @@ use Rattle.razor_ast.specs.declared.node.TNode.TheVariants as nd
 use Rattle.razor_ast.specs.declared.node.TSection.{TSection}
 use Rattle.razor_ast.specs.AttributeNames.{IsElementName}
 use Rattle.razor_ast.specs.Attributes.{AttributesOf}
-use Rattle.razor_ast.specs.Brackets.{Round}
 use Rattle.razor_ast.specs.Literals.{is_edge}
 use Rattle.razor_ast.specs.Nesting.{open_at}
 use Rattle.razor_ast.specs.Nodes.{Spaced, Inside, Tag, Item, Content, Code, Within, Otherwise, Line, Lines, Sections}
@@ -43,93 +36,23 @@ use Rattle.razor_reader.specs.declared.frame.Wanted.{Wanted}
 use Rattle.razor_reader.specs.declared.frame.Wanted.TheVariants as wanted
 use Rattle.razor_reader.specs.declared.go_on.Branch.{Branch}
 use Rattle.razor_reader.specs.declared.item.Turn.TheVariants as t
-use Rattle.razor_reader.specs.declared.mark.Mark.{Mark}
 use Rattle.razor_reader.specs.declared.mark.Mark.TheVariants as m
-use Rattle.razor_reader.specs.Marks.{sign_mark, word_mark, mark_of, mark_number, is_mark}
+use Rattle.razor_reader.specs.Marks.{is_mark}
 use Rattle.razor_reader.specs.Reading.{Numbered, ◌>>=◌, has, after}
 use Rattle.razor_reader.specs.BeginReading as bg
-use Rattle.razor_reader.specs.ContentReading.{edge_of, item_edge}
+use Rattle.razor_reader.specs.ContentReading.{item_edge}
 use Rattle.razor_reader.specs.StatementReading as st
 use Rattle.razor_reader.specs.GoingReading as r
 use Rattle.razor_reader.proofs.ContentRuns.{ContentRuns, last_runs, more_runs, content_leads, tag_ends, group_ends, line_ends}
-use Rattle.razor_reader.proofs.FirstPieces.{Opens, code_starts, line_opens, lines_no_else, lines_no_label, Closing, brace_closes, sections_close, shown_first, item_stands, content_no_else}
+use Rattle.razor_reader.proofs.FirstPieces.{code_starts, line_opens, lines_no_else, lines_no_label, Closing, brace_closes, sections_close, shown_first, item_stands, content_no_else}
 use Rattle.razor_reader.proofs.ForBegins.{for_begins}
+use Rattle.razor_reader.proofs.ItemFacts.{less_one, behind_first, not_after, end_no_item, end_no_else, line_no_item, line_no_else, tag_same, same_name, starts_code, brace_no_if, if_is, else_is, body_braced, one_of_same}
 use Rattle.razor_reader.proofs.ListRuns.{back, at_brace, block_of, LinesRun, no_lines, more_lines, SectionsRun, no_sections, more_sections}
-use Rattle.razor_reader.proofs.StatementComplete.{Starts, simple_begins, block_begins, if_begins, while_begins, foreach_begins, switch_begins, break_begins, continue_begins}
+use Rattle.razor_reader.proofs.StatementComplete.{simple_begins, block_begins, if_begins, while_begins, foreach_begins, switch_begins, break_begins, continue_begins}
 use Rattle.razor_reader.proofs.SuffixLemmas.{Behind, flat_end, not_longer, same_end, far_end, one_end, run_end, round_end, shown_end, shown_less, simple_end, simple_less, attributes_end, spaced_end, labels_end}
 use Rattle.razor_reader.proofs.TagComplete.{open_tag, empty_tag_complete, tag_complete, group_complete, shown_complete, tag_in_code_complete}
-use Rattle.razor_reader.proofs.TurnSteps.{State, Reaches, Leads, lead_by, done, one_turn, then_turns, inside}
+use Rattle.razor_reader.proofs.TurnSteps.{Leads, lead_by, done, one_turn, then_turns, inside}
 use Rattle.razor_reader.proofs.ValueComplete.{FlatPieces, flat_rest, after_is, bind_is}
-
-less_one : (a d : ℕ) → a < d → a + 1 ≤ d
-less_one a d h = omega arith
-
-behind_first : (p : Piece) (ps us : List Piece) → Behind ps us → length us + 1 ≤ length (p ∷ ps)
-behind_first p ps us h = let e = not_longer ps us h in omega arith
-
-not_after : (mark : Mark) (ps : List Piece) → has mark ps ≡ false → after mark ps ≡ None
-not_after mark [] e = refl
-not_after mark (p ∷ ps) e = ap (λ (d : Bool). if d then Some ps else None) e
-
--- the ends of content are no items
-
-end_no_item : (name : List ℕ) (close : Piece) (us : List Piece) → IsKind (k.EndTagStart name) close → item_edge (close ∷ us) ≡ None
-end_no_item name close us i = ap (λ (kind : PieceKind). edge_of (mark_of kind)) i
-
-end_no_else : (name : List ℕ) (close : Piece) (us : List Piece) → IsKind (k.EndTagStart name) close → has m.Else (close ∷ us) ≡ false
-unfolding mark_number
-end_no_else name close us i = ap (is_mark m.Else) i
-
-line_no_item : (end : Piece) (us : List Piece) → IsKind k.LineEnd end → item_edge (end ∷ us) ≡ None
-line_no_item end us i = ap (λ (kind : PieceKind). edge_of (mark_of kind)) i
-
-line_no_else : (end : Piece) (us : List Piece) → IsKind k.LineEnd end → has m.Else (end ∷ us) ≡ false
-unfolding mark_number
-line_no_else end us i = ap (is_mark m.Else) i
-
--- tags
-
-tag_same : (n : ℕ) (p : Piece) (name : List ℕ) (attributes : List Attribute) (children : List TNode) →
-    bg.tag_node (open_tag n p name attributes) children ≡ g.tag_node (is_component name) n p name attributes children
-tag_same n p name attributes children = go (is_component name)
-  where
-    go : (c : Bool) → bg.node_of c (open_tag n p name attributes) children ≡ g.tag_node c n p name attributes children
-    go true = refl
-    go false = refl
-
-same_name : (x : List ℕ) → bytes_eq x x ≡ true
-same_name x = (bytes_eq-Decides x x).1 refl
-
-abbrev IsCode : List Piece → Type 0
-IsCode [] = ⊥
-IsCode (p ∷ ps) = (kind : TokenKind) × (p.kind ≡ k.Code kind)
-
-starts_code : (ps : List Piece) → Starts ps → IsCode ps
-starts_code ps h = subst IsCode (sym h.whole) (h.kind, h.is)
-
-open_brace_is : is_mark m.OpenBrace (k.Code (tk.Sign s.OpenBrace)) ≡ true
-unfolding sign_mark mark_number
-open_brace_is = refl
-
-brace_no_if : is_mark m.If (k.Code (tk.Sign s.OpenBrace)) ≡ false
-unfolding sign_mark mark_number
-brace_no_if = refl
-
-if_is : is_mark m.If (k.Code (tk.Word w.If)) ≡ true
-unfolding word_mark mark_number
-if_is = refl
-
-else_is : is_mark m.Else (k.Code (tk.Word w.Else)) ≡ true
-unfolding word_mark mark_number
-else_is = refl
-
-body_braced : (braced : Bool) (j : Jumps) (n : ℕ) (o : Piece) (ps : List Piece) → IsSign s.OpenBrace o → bg.body braced j n (o ∷ ps) ≡ st.statement braced o.place j n (o ∷ ps)
-body_braced true j n o ps i = ap (λ (d : Bool). if not d then None else st.statement true o.place j n (o ∷ ps)) (ap (is_mark m.OpenBrace) i ∙ open_brace_is)
-body_braced false j n o ps i = refl
-
-one_of_same : {A : Type 0} (d : Bool) (x : A) → (if d then x else x) ≡ x
-one_of_same true x = refl
-one_of_same false x = refl
 
 module _ (all : List Piece) where
   -- a tag in content and in code

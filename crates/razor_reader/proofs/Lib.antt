@@ -11,6 +11,7 @@ pub mod TurnLoops
 pub mod GoesLemmas
 pub mod FileLemmas
 pub mod ReadLemmas
+pub mod MarkKinds
 pub mod MarkLemmas
 pub mod TokenSound
 pub mod CodeSound
@@ -43,6 +44,7 @@ pub mod BeginSound
 pub mod GoingSound
 pub mod ContentRuns
 pub mod ListRuns
+pub mod ItemFacts
 pub mod ItemComplete
 pub mod ItemSound
 pub mod WholeSound

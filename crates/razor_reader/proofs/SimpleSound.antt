@@ -26,7 +26,8 @@ use Rattle.razor_reader.specs.TokenReading.{code_to}
 use Rattle.razor_reader.specs.CodeReading.{is_simple, only}
 use Rattle.razor_reader.specs.CodeReading as r
 use Rattle.razor_reader.proofs.ReadLemmas.{bind_ok, moved, where_true}
-use Rattle.razor_reader.proofs.MarkLemmas.{token_sure, token_semicolon}
+use Rattle.razor_reader.proofs.MarkKinds.{token_semicolon}
+use Rattle.razor_reader.proofs.MarkLemmas.{token_sure}
 use Rattle.razor_reader.proofs.TokenSound.{To, code_to_whole}
 use Rattle.razor_reader.proofs.CodeSound.{are_statements}
 

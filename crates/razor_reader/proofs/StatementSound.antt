@@ -35,7 +35,8 @@ use Rattle.razor_reader.specs.CodeReading.{plain, simple}
 use Rattle.razor_reader.specs.HeadReading.{for_head, for_each_head}
 use Rattle.razor_reader.specs.StatementReading as r
 use Rattle.razor_reader.proofs.ReadLemmas.{bind_ok, moved, where_false, where_not, both_true, not_true}
-use Rattle.razor_reader.proofs.MarkLemmas.{taken, piece_of_mark, of_open_brace, of_semicolon, of_if, of_while, of_for, of_foreach, of_switch, of_break, of_continue, else_marked}
+use Rattle.razor_reader.proofs.MarkKinds.{of_open_brace, of_semicolon, of_if, of_while, of_for, of_foreach, of_switch, of_break, of_continue}
+use Rattle.razor_reader.proofs.MarkLemmas.{taken, piece_of_mark, else_marked}
 use Rattle.razor_reader.proofs.TokenSound.{round_sound}
 use Rattle.razor_reader.proofs.CodeSound.{plain_sound}
 use Rattle.razor_reader.proofs.ForSound.{for_sound}

@@ -18,7 +18,8 @@ use Rattle.razor_reader.specs.Marks.{is_token}
 use Rattle.razor_reader.specs.Reading.{◌>>=◌, after}
 use Rattle.razor_reader.specs.TokenReading.{with_code, code_run, code_to_from, code_to, round, before_last, between}
 use Rattle.razor_reader.proofs.ReadLemmas.{bind_ok, moved, where_true}
-use Rattle.razor_reader.proofs.MarkLemmas.{taken, of_open_round, of_close_round}
+use Rattle.razor_reader.proofs.MarkKinds.{of_open_round, of_close_round}
+use Rattle.razor_reader.proofs.MarkLemmas.{taken}
 
 -- the piece that its token is
 pub code_is : (p : Piece) (kind : TokenKind) → p.kind ≡ k.Code kind → code (token_of p kind) ≡ p

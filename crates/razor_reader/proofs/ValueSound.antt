@@ -27,7 +27,8 @@ use Rattle.razor_reader.specs.TokenReading.{code_run}
 use Rattle.razor_reader.specs.CodeReading.{spelled, plain, shown, led}
 use Rattle.razor_reader.specs.AttributeReading as r
 use Rattle.razor_reader.proofs.ReadLemmas.{bind_ok, moved, by_test}
-use Rattle.razor_reader.proofs.MarkLemmas.{Taken, taken, piece_sure, of_at, of_expression_end, of_value_end}
+use Rattle.razor_reader.proofs.MarkKinds.{of_at, of_expression_end, of_value_end}
+use Rattle.razor_reader.proofs.MarkLemmas.{Taken, taken, piece_sure}
 use Rattle.razor_reader.proofs.TokenSound.{code_is, code_run_whole}
 use Rattle.razor_reader.proofs.CodeSound.{is_spelled, plain_sound, shown_sound, led_sound}
 

@@ -23,7 +23,8 @@ use Rattle.razor_reader.specs.ContentReading.{item_edge}
 use Rattle.razor_reader.specs.ItemReading.{item_first}
 use Rattle.razor_reader.specs.WholeReading as r
 use Rattle.razor_reader.proofs.ReadLemmas.{bind_ok, moved}
-use Rattle.razor_reader.proofs.MarkLemmas.{taken, piece_of_mark, of_expression_end, of_directive_end, of_members_at, of_directive, of_implements}
+use Rattle.razor_reader.proofs.MarkKinds.{of_expression_end, of_directive_end, of_members_at, of_directive, of_implements}
+use Rattle.razor_reader.proofs.MarkLemmas.{taken, piece_of_mark}
 use Rattle.razor_reader.proofs.CodeSound.{block_sound}
 use Rattle.razor_reader.proofs.ValueSound.{codes_to}
 use Rattle.razor_reader.proofs.GoingSound.{text_is, item_edge_sound}

@@ -114,10 +114,14 @@ last_of (u ∷ v ∷ ts) = last_of (v ∷ ts)
 abbrev pub ForParts : Type 0
 ForParts = Option Stmt × Option Expr × Option Expr
 
+-- the three parts in the brackets of a `for`, of which the first two have their semicolons; the third is read with that of the second
+abbrev pub three_parts : List Token → List Token → List Token → Option ForParts
+three_parts first second third =
+    last_of second >>= λ semicolon. (start first >>= λ begin. (condition second >>= λ holds. (step third semicolon >>= λ next. Some (begin, holds, next))))
+
 -- what stands in the brackets of a `for`
 abbrev pub for_head : List Token → Option ForParts
-for_head ts = to_semicolon ts >>= λ x. (to_semicolon x.1 >>= λ y. (last_of y.0 >>= λ semicolon.
-    (start x.0 >>= λ begin. (condition y.0 >>= λ holds. (step y.1 semicolon >>= λ next. Some (begin, holds, next))))))
+for_head ts = to_semicolon ts >>= λ x. (to_semicolon x.1 >>= λ y. three_parts x.0 y.0 y.1)
 
 -- a name as part of a tree
 abbrev pub name_by : TokenKind → Token → Option Ident

@@ -101,8 +101,27 @@ fn step(
 /// What begins, ends and goes on with a `for`.
 pub type ForParts = (Option<Stmt>, Option<Expr>, Option<Expr>);
 
-/// What stands in the brackets of a `for`.
+/// The parts of a `for`, of which the first two have their semicolons.
 #[tactic(auto, using(crate::proofs::HeadLoops::last_is, crate::proofs::HeadLoops::last_none))]
+fn three_parts(
+    alloc: Global,
+    first: &[Token],
+    second: &[Token],
+    third: &[Token],
+    pieces: &[Piece],
+) -> Result<ForParts, Unread>
+    ensures { Gives (λ a. a) result (spec.three_parts first.now second.now third.now) }
+{
+    let Some(semicolon) = second.last() else {
+        return Err(Unread::Syntax(pieces.len()));
+    };
+    let start = start(alloc, first, pieces)?;
+    let condition = condition(alloc, second, pieces)?;
+    let step = step(alloc, third, semicolon, pieces)?;
+    Ok((start, condition, step))
+}
+
+/// What stands in the brackets of a `for`.
 pub fn for_head(alloc: Global, tokens: &[Token], pieces: &[Piece]) -> Result<ForParts, Unread>
     ensures { Gives (λ a. a) result (spec.for_head tokens.now) }
 {
@@ -112,13 +131,7 @@ pub fn for_head(alloc: Global, tokens: &[Token], pieces: &[Piece]) -> Result<For
     let Some((second, third)) = to_semicolon(rest) else {
         return Err(Unread::Syntax(pieces.len()));
     };
-    let Some(semicolon) = second.last() else {
-        return Err(Unread::Syntax(pieces.len()));
-    };
-    let start = start(alloc, first, pieces)?;
-    let condition = condition(alloc, second, pieces)?;
-    let step = step(alloc, third, semicolon, pieces)?;
-    Ok((start, condition, step))
+    three_parts(alloc, first, second, third, pieces)
 }
 
 /// A name as part of a tree.
