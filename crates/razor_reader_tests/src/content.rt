@@ -1,6 +1,8 @@
 // What content is read as.
 use crate::support::compare;
+use razor_reader::read;
 use std::test::Fail;
+use text_core::Txt;
 
 #[test]
 fn reads_content(rt: HostRuntime) -> Result<(), Fail> {

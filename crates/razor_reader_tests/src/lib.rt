@@ -4,11 +4,15 @@
 #![tactic(auto)]
 
 #[cfg(test)]
+mod attribute;
+#[cfg(test)]
 mod code;
 #[cfg(test)]
 mod content;
 #[cfg(test)]
 mod faults;
+#[cfg(test)]
+mod forms;
 #[cfg(test)]
 mod outline;
 #[cfg(test)]

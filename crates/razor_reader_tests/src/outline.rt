@@ -1,145 +1,31 @@
 // The outline of a component: the forms of its parts with their numbers.
-use cs_ast::{Expr, ExprKind, Stmt, StmtKind};
-use razor_ast::{Attribute, AttributeKind, Component, Given, TNode, TSection, ValuePart};
+use crate::attribute::attributes;
+use crate::forms::{count, form, number, some_form, some_statement_form, statement_form};
+use cs_ast::{Expr, Ident, Stmt};
+use razor_ast::{Attribute, Component, TNode, TSection};
+use sqlite_items::{Boxed, Items};
 use std::alloc::Global;
 use std::test::Fail;
+use text_core::Txt;
 
-fn form(a: &Expr) -> &'static str {
-    match &a.kind {
-        ExprKind::Name(_) => "name",
-        ExprKind::Int(_) => "int",
-        ExprKind::Bool(_) => "bool",
-        ExprKind::Text(_) => "text",
-        ExprKind::Binary(_, _, _) => "binary",
-        ExprKind::Member(_, _) => "member",
-        ExprKind::Call(_, _) => "call",
-        ExprKind::Index(_, _) => "index",
-        ExprKind::Cast(_, _) => "cast",
-        ExprKind::Conditional(_, _, _) => "conditional",
-        ExprKind::Lambda(_, _) => "lambda",
-        ExprKind::Assign(_, _, _) => "assign",
-        ExprKind::Step(_, _) => "step",
-        ExprKind::Interpolated(_) => "interpolated",
-        _ => "other",
-    }
-}
-
-fn statement_form(a: &Stmt) -> &'static str {
-    match &a.kind {
-        StmtKind::Local { .. } => "local",
-        StmtKind::Empty => "empty",
-        StmtKind::Expr(_) => "act",
-        StmtKind::Await(_) => "await",
-        StmtKind::Return(_) => "return",
-        StmtKind::Break => "break",
-        StmtKind::Continue => "continue",
-        _ => "compound",
-    }
-}
-
-fn number(alloc: Global, out: &mut String, n: u32) -> Result<(), Fail> {
-    out.push_str(format!(in alloc; "{n}")?.as_str())?;
+fn quoted(alloc: Global, out: &mut String, n: u32, quote: &str, text: &Txt) -> Result<(), Fail> {
+    number(alloc, out, n)?;
+    out.push_str(quote)?;
+    out.push_str(text.as_str())?;
+    out.push_str("'")?;
     Ok(())
 }
 
-fn some_form(a: &Option<Expr>) -> &'static str {
-    match a {
-        Some(a) => form(a),
-        None => "none",
-    }
-}
-
-fn value_part(out: &mut String, part: &ValuePart) -> Result<(), Fail> {
-    match part {
-        ValuePart::Literal(text) => {
-            out.push_str("'")?;
-            out.push_str(text.as_str())?;
-            out.push_str("'")?;
-        }
-        ValuePart::Shown(a) => {
-            out.push_str("@")?;
-            out.push_str(form(a))?;
-        }
-    }
+fn shown(alloc: Global, out: &mut String, n: u32, value: &Expr) -> Result<(), Fail> {
+    number(alloc, out, n)?;
+    out.push_str("@")?;
+    out.push_str(form(value))?;
     Ok(())
 }
 
-fn given(out: &mut String, given: &Given) -> Result<(), Fail> {
-    match given {
-        Given::Nothing => Ok(()),
-        Given::Text {
-            text,
-            expression,
-            ..
-        } => {
-            out.push_str("'")?;
-            out.push_str(text.as_str())?;
-            out.push_str("'")?;
-            out.push_str(some_form(expression))?;
-            Ok(())
-        }
-        Given::Value(a) => {
-            out.push_str("@")?;
-            out.push_str(form(a))?;
-            Ok(())
-        }
-    }
-}
-
-fn attribute(alloc: Global, out: &mut String, a: &Attribute) -> Result<(), Fail> {
-    out.push_str(a.name.as_str())?;
-    match &a.kind {
-        AttributeKind::Mixed { number: n, value } => {
-            number(alloc, out, *n)?;
-            for part in value.as_slice() {
-                value_part(out, part)?;
-            }
-        }
-        AttributeKind::Key(e) => {
-            out.push_str(" ")?;
-            out.push_str(form(e))?;
-        }
-        AttributeKind::Event { number: n, value } => {
-            number(alloc, out, *n)?;
-            out.push_str(" ")?;
-            out.push_str(form(value))?;
-        }
-        AttributeKind::Bind { number: n, field } => {
-            number(alloc, out, *n)?;
-            out.push_str(" ")?;
-            out.push_str(field.name.as_str())?;
-        }
-        AttributeKind::BindEvent => {}
-        AttributeKind::Parameter {
-            number: n,
-            given: value,
-        } => {
-            number(alloc, out, *n)?;
-            given(out, value)?;
-        }
-        AttributeKind::Context { number: n, name } => {
-            number(alloc, out, *n)?;
-            out.push_str(" ")?;
-            out.push_str(name.name.as_str())?;
-        }
-    }
-    Ok(())
-}
-
-fn attributes(alloc: Global, out: &mut String, all: &[Attribute]) -> Result<(), Fail> {
-    if all.is_empty() {
-        return Ok(());
-    }
-    out.push_str("[")?;
-    let mut first = true;
-    for a in all {
-        if !first {
-            out.push_str(" ")?;
-        }
-        first = false;
-        attribute(alloc, out, a)?;
-    }
-    out.push_str("]")?;
+fn statement(out: &mut String, a: &Stmt) -> Result<(), Fail> {
+    out.push_str(statement_form(a))?;
+    out.push_str(";")?;
     Ok(())
 }
 
@@ -147,156 +33,58 @@ fn attributes(alloc: Global, out: &mut String, all: &[Attribute]) -> Result<(), 
 fn node(alloc: Global, out: &mut String, node: &TNode) -> Result<(), Fail> {
     match node {
         TNode::Element {
-            number: n,
+            number,
             name,
-            attributes: some,
+            attributes,
             children,
             ..
-        }
-        | TNode::Child {
-            number: n,
+        } => tag(alloc, out, *number, name, attributes, children.as_slice()),
+        TNode::Child {
+            number,
             name,
-            attributes: some,
+            attributes,
             children,
             ..
-        } => {
-            out.push_str(name.name.as_str())?;
-            number(alloc, out, *n)?;
-            attributes(alloc, out, some.as_slice())?;
-            list(alloc, out, children.as_slice())
-        }
-        TNode::Text {
-            number: n,
-            text,
-            ..
-        } => {
-            number(alloc, out, *n)?;
-            out.push_str("'")?;
-            out.push_str(text.as_str())?;
-            out.push_str("'")?;
-            Ok(())
-        }
-        TNode::Raw {
-            number: n,
-            text,
-            ..
-        } => {
-            number(alloc, out, *n)?;
-            out.push_str("&'")?;
-            out.push_str(text.as_str())?;
-            out.push_str("'")?;
-            Ok(())
-        }
-        TNode::Content {
-            number: n,
-            value,
-            ..
-        } => {
-            number(alloc, out, *n)?;
-            out.push_str("@")?;
-            out.push_str(form(value))?;
-            Ok(())
-        }
-        TNode::Group { items, .. } => {
-            out.push_str(":")?;
-            list(alloc, out, items.as_slice())
-        }
-        TNode::Statement(a) => {
-            out.push_str(statement_form(a))?;
-            out.push_str(";")?;
-            Ok(())
-        }
-        TNode::Block { items, .. } => {
-            out.push_str("block")?;
-            list(alloc, out, items.as_slice())
-        }
+        } => tag(alloc, out, *number, name, attributes, children.as_slice()),
+        TNode::Text { number, text, .. } => quoted(alloc, out, *number, "'", text),
+        TNode::Raw { number, text, .. } => quoted(alloc, out, *number, "&'", text),
+        TNode::Content { number, value, .. } => shown(alloc, out, *number, value),
+        TNode::Group { items, .. } => group(alloc, out, ":", items.as_slice()),
+        TNode::Statement(a) => statement(out, a),
+        TNode::Block { items, .. } => group(alloc, out, "block", items.as_slice()),
         TNode::If {
             condition,
             yes,
             no,
             ..
-        } => {
-            out.push_str("if ")?;
-            out.push_str(form(condition))?;
-            out.push_str(" ")?;
-            node_in(alloc, out, yes.get())?;
-            if let Some(no) = no {
-                out.push_str(" else ")?;
-                node_in(alloc, out, no.get())?;
-            }
-            Ok(())
-        }
+        } => branches(alloc, out, condition, yes.get(), no),
         TNode::Switch {
             value,
             sections,
             ..
-        } => {
-            out.push_str("switch ")?;
-            out.push_str(form(value))?;
-            for section in sections.as_slice() {
-                out.push_str(" ")?;
-                number(alloc, out, section.labels.len() as u32)?;
-                list(alloc, out, section.items.as_slice())?;
-            }
-            Ok(())
-        }
+        } => { switch(alloc, out, value, sections.as_slice()) }
         TNode::For {
-            number: n,
+            number,
             start,
             condition,
             step,
             body,
             ..
-        } => {
-            out.push_str("for")?;
-            number(alloc, out, *n)?;
-            out.push_str(" ")?;
-            out.push_str(match start {
-                Some(a) => statement_form(a),
-                None => "none",
-            })?;
-            out.push_str(" ")?;
-            out.push_str(some_form(condition))?;
-            out.push_str(" ")?;
-            out.push_str(some_form(step))?;
-            out.push_str(" ")?;
-            node_in(alloc, out, body.get())
-        }
+        } => for_loop(alloc, out, *number, start, condition, step, body.get()),
         TNode::ForEach {
-            number: n,
+            number,
             name,
-            list: items,
+            list,
             body,
             ..
-        } => {
-            out.push_str("foreach")?;
-            number(alloc, out, *n)?;
-            out.push_str(" ")?;
-            out.push_str(name.name.as_str())?;
-            out.push_str(" ")?;
-            out.push_str(form(items))?;
-            out.push_str(" ")?;
-            node_in(alloc, out, body.get())
-        }
+        } => for_each(alloc, out, *number, name, list, body.get()),
         TNode::While {
-            number: n,
+            number,
             condition,
             body,
             ..
-        } => {
-            out.push_str("while")?;
-            number(alloc, out, *n)?;
-            out.push_str(" ")?;
-            out.push_str(form(condition))?;
-            out.push_str(" ")?;
-            node_in(alloc, out, body.get())
-        }
+        } => while_loop(alloc, out, *number, condition, body.get()),
     }
-}
-
-#[cycle(outline)]
-fn node_in(alloc: Global, out: &mut String, inner: &TNode) -> Result<(), Fail> {
-    node(alloc, out, inner)
 }
 
 #[cycle(outline)]
@@ -309,6 +97,131 @@ fn list(alloc: Global, out: &mut String, nodes: &[TNode]) -> Result<(), Fail> {
     Ok(())
 }
 
+#[cycle(outline)]
+fn tag(
+    alloc: Global,
+    out: &mut String,
+    n: u32,
+    name: &Ident,
+    all: &Items<Attribute>,
+    children: &[TNode],
+) -> Result<(), Fail> {
+    out.push_str(name.name.as_str())?;
+    number(alloc, out, n)?;
+    attributes(alloc, out, all.as_slice())?;
+    list(alloc, out, children)
+}
+
+#[cycle(outline)]
+fn group(alloc: Global, out: &mut String, word: &str, items: &[TNode]) -> Result<(), Fail> {
+    out.push_str(word)?;
+    list(alloc, out, items)
+}
+
+#[cycle(outline)]
+fn otherwise(alloc: Global, out: &mut String, no: &Option<Boxed<TNode>>) -> Result<(), Fail> {
+    match no {
+        None => Ok(()),
+        Some(no) => behind(alloc, out, " else ", no.get()),
+    }
+}
+
+#[cycle(outline)]
+fn behind(alloc: Global, out: &mut String, word: &str, inner: &TNode) -> Result<(), Fail> {
+    out.push_str(word)?;
+    node(alloc, out, inner)
+}
+
+#[cycle(outline)]
+fn branches(
+    alloc: Global,
+    out: &mut String,
+    condition: &Expr,
+    yes: &TNode,
+    no: &Option<Boxed<TNode>>,
+) -> Result<(), Fail> {
+    out.push_str("if ")?;
+    out.push_str(form(condition))?;
+    behind(alloc, out, " ", yes)?;
+    otherwise(alloc, out, no)
+}
+
+#[cycle(outline)]
+fn section(alloc: Global, out: &mut String, it: &TSection) -> Result<(), Fail> {
+    out.push_str(" ")?;
+    count(alloc, out, it.labels.len())?;
+    list(alloc, out, it.items.as_slice())
+}
+
+#[cycle(outline)]
+fn switch(
+    alloc: Global,
+    out: &mut String,
+    value: &Expr,
+    sections: &[TSection],
+) -> Result<(), Fail> {
+    out.push_str("switch ")?;
+    out.push_str(form(value))?;
+    for it in sections {
+        section(alloc, out, it)?;
+    }
+    Ok(())
+}
+
+#[cycle(outline)]
+fn for_loop(
+    alloc: Global,
+    out: &mut String,
+    n: u32,
+    start: &Option<Stmt>,
+    condition: &Option<Expr>,
+    step: &Option<Expr>,
+    body: &TNode,
+) -> Result<(), Fail> {
+    out.push_str("for")?;
+    number(alloc, out, n)?;
+    out.push_str(" ")?;
+    out.push_str(some_statement_form(start))?;
+    out.push_str(" ")?;
+    out.push_str(some_form(condition))?;
+    out.push_str(" ")?;
+    out.push_str(some_form(step))?;
+    behind(alloc, out, " ", body)
+}
+
+#[cycle(outline)]
+fn for_each(
+    alloc: Global,
+    out: &mut String,
+    n: u32,
+    name: &Ident,
+    items: &Expr,
+    body: &TNode,
+) -> Result<(), Fail> {
+    out.push_str("foreach")?;
+    number(alloc, out, n)?;
+    out.push_str(" ")?;
+    out.push_str(name.name.as_str())?;
+    out.push_str(" ")?;
+    out.push_str(form(items))?;
+    behind(alloc, out, " ", body)
+}
+
+#[cycle(outline)]
+fn while_loop(
+    alloc: Global,
+    out: &mut String,
+    n: u32,
+    condition: &Expr,
+    body: &TNode,
+) -> Result<(), Fail> {
+    out.push_str("while")?;
+    number(alloc, out, n)?;
+    out.push_str(" ")?;
+    out.push_str(form(condition))?;
+    behind(alloc, out, " ", body)
+}
+
 pub fn outline(alloc: Global, component: &Component) -> Result<String, Fail> {
     let mut out = String::new(alloc);
     for inner in component.nodes.as_slice() {
@@ -319,7 +232,7 @@ pub fn outline(alloc: Global, component: &Component) -> Result<String, Fail> {
     }
     if !component.members.is_empty() {
         out.push_str("+")?;
-        number(alloc, &mut out, component.members.len() as u32)?;
+        count(alloc, &mut out, component.members.len())?;
     }
     Ok(out)
 }
