@@ -11,7 +11,7 @@ use Rattle.razor_reader.specs.Marks.{is_token}
 use Rattle.razor_reader.specs.declared.unread.Unread.{Unread}
 use Rattle.razor_reader.specs.declared.unread.Unread.TheVariants as un
 use Rattle.razor_reader.specs.Reading.{◌>>=◌, Fails}
-use Rattle.razor_reader.specs.HeadReading.{to_semicolon, without_last, last_of, start, condition, step, for_head}
+use Rattle.razor_reader.specs.HeadReading.{to_semicolon, without_last, last_of, start, condition, step, three_parts}
 
 abbrev pub Halves : Type 0
 Halves = Option (List Token × List Token)
@@ -81,17 +81,22 @@ last_none [] e = refl
 last_none (a ∷ []) e = absurd (cc)
 last_none (a ∷ b ∷ ts) e = last_none (b ∷ ts) (sym (last_more a b ts) ∙ e)
 
--- what stands in the brackets of a `for`, up to its step
-pub for_step : (ts first rest second third : List Token) (semicolon : Token) (a : Option Stmt) (b : Option Expr) → to_semicolon ts ≡ Some (first, rest) → to_semicolon rest ≡ Some (second, third) →
-    last_of second ≡ Some semicolon → start first ≡ Some a → condition second ≡ Some b → for_head ts ≡ (step third semicolon >>= λ next. Some (a, b, next))
-for_step ts first rest second third semicolon a b e f g h i =
-    ap (λ (o : Halves). o >>= λ x. (to_semicolon x.1 >>= λ y. (last_of y.0 >>= λ u. (start x.0 >>= λ begin. (condition y.0 >>= λ holds. (step y.1 u >>= λ next. Some (begin, holds, next))))))) e
-    ∙ ap (λ (o : Halves). o >>= λ y. (last_of y.0 >>= λ u. (start first >>= λ begin. (condition y.0 >>= λ holds. (step y.1 u >>= λ next. Some (begin, holds, next)))))) f
-    ∙ ap (λ (o : Option Token). o >>= λ u. (start first >>= λ begin. (condition second >>= λ holds. (step third u >>= λ next. Some (begin, holds, next))))) g
+-- the parts of a `for`, up to the third
+pub third_left : (first second third : List Token) (semicolon : Token) (a : Option Stmt) (b : Option Expr) → last_of second ≡ Some semicolon → start first ≡ Some a → condition second ≡ Some b →
+    three_parts first second third ≡ (step third semicolon >>= λ next. Some (a, b, next))
+third_left first second third semicolon a b g h i =
+    ap (λ (o : Option Token). o >>= λ u. (start first >>= λ begin. (condition second >>= λ holds. (step third u >>= λ next. Some (begin, holds, next))))) g
     ∙ ap (λ (o : Option (Option Stmt)). o >>= λ begin. (condition second >>= λ holds. (step third semicolon >>= λ next. Some (begin, holds, next)))) h
     ∙ ap (λ (o : Option (Option Expr)). o >>= λ holds. (step third semicolon >>= λ next. Some (a, holds, next))) i
 
--- a part that fails for a cause, and a whole that fails with it
-pub fails_on : {A B : Type 0} (e : Unread) (part : Option A) (whole : Option B) → (part ≡ None → whole ≡ None) → Fails e part → Fails e whole
-fails_on un.Oom part whole f h = tt
-fails_on (un.Syntax left) part whole f h = f h
+-- the third part as it is, and as it fails
+pub third_is : (first second third : List Token) (semicolon : Token) (a : Option Stmt) (b c : Option Expr) → last_of second ≡ Some semicolon → start first ≡ Some a → condition second ≡ Some b →
+    step third semicolon ≡ Some c → three_parts first second third ≡ Some (a, b, c)
+third_is first second third semicolon a b c g h i e =
+    third_left first second third semicolon a b g h i ∙ ap (λ (o : Option (Option Expr)). o >>= λ next. Some (a, b, next)) e
+
+pub third_fails : (first second third : List Token) (semicolon : Token) (a : Option Stmt) (b : Option Expr) (e : Unread) → last_of second ≡ Some semicolon → start first ≡ Some a → condition second ≡ Some b →
+    Fails e (step third semicolon) → Fails e (three_parts first second third)
+third_fails first second third semicolon a b un.Oom g h i f = tt
+third_fails first second third semicolon a b (un.Syntax left) g h i f =
+    third_left first second third semicolon a b g h i ∙ ap (λ (o : Option (Option Expr)). o >>= λ next. Some (a, b, next)) f

@@ -50,7 +50,7 @@ use Rattle.razor_reader.proofs.ItemFacts.{less_one, behind_first, not_after, end
 use Rattle.razor_reader.proofs.ListRuns.{back, at_brace, block_of, LinesRun, no_lines, more_lines, SectionsRun, no_sections, more_sections}
 use Rattle.razor_reader.proofs.StatementComplete.{simple_begins, block_begins, if_begins, while_begins, foreach_begins, switch_begins, break_begins, continue_begins}
 use Rattle.razor_reader.proofs.SuffixLemmas.{Behind, flat_end, not_longer, same_end, far_end, one_end, run_end, round_end, shown_end, shown_less, simple_end, simple_less, attributes_end, spaced_end, labels_end}
-use Rattle.razor_reader.proofs.TagComplete.{open_tag, empty_tag_complete, tag_complete, group_complete, shown_complete, tag_in_code_complete}
+use Rattle.razor_reader.proofs.TagComplete.{empty_tag_complete, tag_complete, group_complete, shown_complete, tag_in_code_complete}
 use Rattle.razor_reader.proofs.TurnSteps.{Leads, lead_by, done, one_turn, then_turns, inside}
 use Rattle.razor_reader.proofs.ValueComplete.{FlatPieces, flat_rest, after_is, bind_is}
 
@@ -219,8 +219,8 @@ module _ (all : List Piece) where
         let beyond = far_end ps us vs (attributes_end (open_at all) (is_component name) (k0 + 1) ps us n attributes spelled.spelled) behind in
         let last = far_end zs (end ∷ rest) rest (spaced_end zs (end ∷ rest) white) (one_end end rest rest (same_end rest)) in
         let runs = content_read true n vs (close ∷ zs) i children (flat_rest begin vs flat) (end_no_item name close zs y) (end_no_else name close zs y) content in
-        content_leads all (bg.tag all k0 p name ps) (owner.Tag (open_tag k0 p name attributes)) n i i (p ∷ ps) vs (close ∷ zs) rest children (g.tag_node (is_component name) k0 p name attributes children) read runs
-        (tag_ends (open_tag k0 p name attributes) children i close end zs rest y white z ∙ ap (λ (a : TNode). Some (nx.Done a, i, rest)) (tag_same k0 p name attributes children))
+        content_leads all (bg.tag all k0 p name ps) (owner.Tag (bg.open_tag k0 p name attributes)) n i i (p ∷ ps) vs (close ∷ zs) rest children (g.tag_node (is_component name) k0 p name attributes children) read runs
+        (tag_ends (bg.open_tag k0 p name attributes) children i close end zs rest y white z ∙ ap (λ (a : TNode). Some (nx.Done a, i, rest)) (tag_same k0 p name attributes children))
         (behind_first p ps vs beyond) (behind_first close zs rest last) (one_end p ps vs beyond) (one_end close zs rest last)
 
     tag_read : (n : ℕ) (ps rest : List Piece) (i : ℕ) (a : TNode) → FlatPieces ps → Tag (open_at all) n ps rest i a → TagLeads n ps rest i a

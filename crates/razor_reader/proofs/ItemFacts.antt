@@ -25,7 +25,6 @@ use Rattle.razor_reader.specs.ContentReading.{edge_of, item_edge}
 use Rattle.razor_reader.specs.StatementReading as st
 use Rattle.razor_reader.proofs.StatementComplete.{Starts}
 use Rattle.razor_reader.proofs.SuffixLemmas.{Behind, not_longer}
-use Rattle.razor_reader.proofs.TagComplete.{open_tag}
 
 pub less_one : (a d : ℕ) → a < d → a + 1 ≤ d
 less_one a d h = omega arith
@@ -56,10 +55,10 @@ line_no_else end us i = ap (is_mark m.Else) i
 -- tags
 
 pub tag_same : (n : ℕ) (p : Piece) (name : List ℕ) (attributes : List Attribute) (children : List TNode) →
-    bg.tag_node (open_tag n p name attributes) children ≡ g.tag_node (is_component name) n p name attributes children
+    bg.tag_node (bg.open_tag n p name attributes) children ≡ g.tag_node (is_component name) n p name attributes children
 tag_same n p name attributes children = go (is_component name)
   where
-    go : (c : Bool) → bg.node_of c (open_tag n p name attributes) children ≡ g.tag_node c n p name attributes children
+    go : (c : Bool) → bg.node_of c (bg.open_tag n p name attributes) children ≡ g.tag_node c n p name attributes children
     go true = refl
     go false = refl
 

@@ -131,30 +131,26 @@ opened_content o n ps begin rest s i =
     ∙ ap (r.ended_or o n (begin ∷ rest)) (after_not m.EmptyTagEnd k.ContentStart begin rest start_no_empty i)
     ∙ bind_is (after m.ContentStart (begin ∷ rest)) rest (λ rest. Some (r.content_in (owner.Tag o), n, rest)) (after_is m.ContentStart k.ContentStart begin rest start_is i)
 
--- the tag that is open behind its name and attributes
-abbrev pub open_tag : ℕ → Piece → List ℕ → List Attribute → OpenTag
-open_tag n p name attributes = record { number = n; place = p.place; name = name_at p name; component = is_component name; attributes = attributes }
-
 tag_by : (all : List Piece) (n i : ℕ) (p : Piece) (name : List ℕ) (ps us vs : List Piece) (attributes : List Attribute) → FlatPieces ps → IsElementName name
-    → AttributesOf (open_at all) (is_component name) (n + 1) ps us i attributes → Spaced us vs → Ends vs → r.tag all n p name ps ≡ r.opened (open_tag n p name attributes) i us
+    → AttributesOf (open_at all) (is_component name) (n + 1) ps us i attributes → Spaced us vs → Ends vs → r.tag all n p name ps ≡ r.opened (r.open_tag n p name attributes) i us
 tag_by all n i p name ps us vs attributes f h a s e =
-    ap (λ (b : Bool). if not b then None else (attributes_first all (is_component name) (n + 1) ps >>= λ x. r.opened (open_tag n p name x.0) x.1 x.2)) (element_name_complete name h)
-    ∙ bind_is (attributes_first all (is_component name) (n + 1) ps) (attributes, i, us) (λ x. r.opened (open_tag n p name x.0) x.1 x.2)
+    ap (λ (b : Bool). if not b then None else (attributes_first all (is_component name) (n + 1) ps >>= λ x. r.opened (r.open_tag n p name x.0) x.1 x.2)) (element_name_complete name h)
+    ∙ bind_is (attributes_first all (is_component name) (n + 1) ps) (attributes, i, us) (λ x. r.opened (r.open_tag n p name x.0) x.1 x.2)
     (attributes_complete all (is_component name) (n + 1) ps us i attributes f (no_value_behind us vs s e) (no_attribute_behind us vs s e) a)
 
 -- a tag without content is read whole
 pub empty_tag_complete : (all : List Piece) (n i : ℕ) (p end : Piece) (name : List ℕ) (ps us rest : List Piece) (attributes : List Attribute) → FlatPieces ps → IsElementName name
     → AttributesOf (open_at all) (is_component name) (n + 1) ps us i attributes → Spaced us (end ∷ rest) → IsKind k.EmptyTagEnd end
-    → r.tag all n p name ps ≡ Some (nx.Done (r.tag_node (open_tag n p name attributes) []), i, rest)
+    → r.tag all n p name ps ≡ Some (nx.Done (r.tag_node (r.open_tag n p name attributes) []), i, rest)
 empty_tag_complete all n i p end name ps us rest attributes f h a s e =
-    tag_by all n i p name ps us (end ∷ rest) attributes f h a s (empty_ends end rest e) ∙ opened_empty (open_tag n p name attributes) i us end rest s e
+    tag_by all n i p name ps us (end ∷ rest) attributes f h a s (empty_ends end rest e) ∙ opened_empty (r.open_tag n p name attributes) i us end rest s e
 
 -- a tag with content is read up to its content
 pub tag_complete : (all : List Piece) (n i : ℕ) (p begin : Piece) (name : List ℕ) (ps us rest : List Piece) (attributes : List Attribute) → FlatPieces ps → IsElementName name
     → AttributesOf (open_at all) (is_component name) (n + 1) ps us i attributes → Spaced us (begin ∷ rest) → IsKind k.ContentStart begin
-    → r.tag all n p name ps ≡ Some (r.content_in (owner.Tag (open_tag n p name attributes)), i, rest)
+    → r.tag all n p name ps ≡ Some (r.content_in (owner.Tag (r.open_tag n p name attributes)), i, rest)
 tag_complete all n i p begin name ps us rest attributes f h a s e =
-    tag_by all n i p name ps us (begin ∷ rest) attributes f h a s (content_ends begin rest e) ∙ opened_content (open_tag n p name attributes) i us begin rest s e
+    tag_by all n i p name ps us (begin ∷ rest) attributes f h a s (content_ends begin rest e) ∙ opened_content (r.open_tag n p name attributes) i us begin rest s e
 
 -- `<text>` in code is read up to its content
 pub group_complete : (n : ℕ) (p : Place) (begin : Piece) (ps rest : List Piece) → Spaced ps (begin ∷ rest) → IsKind k.ContentStart begin

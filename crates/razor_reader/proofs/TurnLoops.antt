@@ -1,5 +1,6 @@
 -- Turns of the loops that read items and whole files.
 use Rattle.std.proofs.Common.{◌≡◌, ℕ, zero, suc, ◌-◌, ◌<◌, List, [], ◌∷◌, length, reverse, refl, sym, ap, ◌∙◌, arith}
+use Rattle.std.proofs.lemmas.Bool.{eqb-true}
 use Rattle.std.specs.Prelude.{◌==◌, true, Some, None}
 use Rattle.razor_token.specs.declared.piece.Piece.{Piece}
 use Rattle.razor_ast.specs.declared.node.TNode.{TNode}
@@ -83,7 +84,7 @@ module _ (all : List Piece) where
 
   pub whole_empty : (n : ℕ) (parts : Parts) (ps : List Piece) → (length ps == 0) ≡ true → w.parts_in all n parts ps ≡ Some parts
   whole_empty n parts [] e = whole_end n parts
-  whole_empty n parts (p ∷ ps) e = absurd (cc)
+  whole_empty n parts (p ∷ ps) e = let none : length (p ∷ ps) ≡ 0 = eqb-true (length (p ∷ ps)) 0 e in absurd (omega arith)
 
 -- how an item begins
 pub item_start : (all : List Piece) (n m left : ℕ) (ps rest : List Piece) (next : Next) (frames : List Frame) → begin all want.Item n ps ≡ Some (next, m, rest) → left ≡ turns_for ps → frames ≡ [] →

@@ -6,6 +6,7 @@ use Rattle.razor_token.specs.Tags.{is_component}
 use Rattle.razor_token.specs.declared.piece.Piece.{Piece}
 use Rattle.razor_token.specs.declared.piece.PieceKind.{PieceKind}
 use Rattle.razor_token.specs.declared.piece.PieceKind.TheVariants as k
+use Rattle.razor_ast.specs.declared.attribute.Attribute.{Attribute}
 use Rattle.razor_ast.specs.declared.node.TNode.{TNode}
 use Rattle.razor_ast.specs.declared.node.TNode.TheVariants as nd
 use Rattle.razor_ast.specs.Literals.{place_of}
@@ -48,12 +49,15 @@ ended_or o n ps None = after m.ContentStart ps >>= λ rest. Some (content_in (ow
 abbrev pub opened : OpenTag → ℕ → List Piece → Numbered Next
 opened o n ps = ended_or o n (past_space ps) (after m.EmptyTagEnd (past_space ps))
 
+-- a tag of this name with these attributes
+abbrev pub open_tag : ℕ → Piece → List ℕ → List Attribute → OpenTag
+open_tag n p name attributes = record { number = n; place = p.place; name = name_at p name; component = is_component name; attributes = attributes }
+
 -- a tag of this name behind it
 abbrev pub tag : List Piece → ℕ → Piece → List ℕ → List Piece → Numbered Next
 tag all n p name ps =
     if not (is_element_name name) then None
-    else (attributes_first all (is_component name) (n + 1) ps >>= λ x.
-    opened (record { number = n; place = p.place; name = name_at p name; component = is_component name; attributes = x.0 }) x.1 x.2)
+    else (attributes_first all (is_component name) (n + 1) ps >>= λ x. opened (open_tag n p name x.0) x.1 x.2)
 
 -- content behind `<text` in code
 abbrev pub group : ℕ → Place → List Piece → Numbered Next

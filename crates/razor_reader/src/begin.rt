@@ -12,7 +12,7 @@ use crate::names::{is_component, is_element_name};
 use crate::statement::{nowhere, statement};
 use crate::unread::Unread;
 use cs_ast::Ident;
-use razor_ast::TNode;
+use razor_ast::{Attribute, TNode};
 use razor_token::{Piece, PieceKind};
 use sqlite_items::Items;
 use std::alloc::Global;
@@ -100,6 +100,24 @@ fn opened<'a>(alloc: Global, tag: OpenTag, number: u32, pieces: &'a [Piece]) -> 
     Ok((content_in(alloc, Owner::Tag(tag)), number, rest))
 }
 
+/// A tag of this name with these attributes.
+fn open_tag(
+    number: u32,
+    p: &Piece,
+    name: &Txt,
+    attributes: Items<Attribute>,
+) -> Result<OpenTag, Unread>
+    ensures { Gives (λ tag. tag) result (Some (spec.open_tag number p.now name.now attributes)) }
+{
+    Ok(OpenTag {
+        number,
+        place: p.place,
+        name: name_at(p, name)?,
+        component: is_component(name),
+        attributes,
+    })
+}
+
 /// A tag of this name behind it.
 fn tag<'a>(
     alloc: Global,
@@ -114,16 +132,10 @@ fn tag<'a>(
     if !is_element_name(name) {
         return Err(Unread::Syntax(pieces.len() + 1));
     }
-    let component = is_component(name);
     let next = next_number(number)?;
-    let (attributes, next, rest) = attributes_first(alloc, all, component, next, pieces)?;
-    let tag = OpenTag {
-        number,
-        place: p.place,
-        name: name_at(p, name)?,
-        component,
-        attributes,
-    };
+    let (attributes, next, rest) =
+        attributes_first(alloc, all, is_component(name), next, pieces)?;
+    let tag = open_tag(number, p, name, attributes)?;
     opened(alloc, tag, next, rest)
 }
 
