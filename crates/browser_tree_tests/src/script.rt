@@ -102,9 +102,7 @@ pub fn apply(
     script: &str,
 ) -> Result<Result<Counts, ApplyFault>, Fail> {
     let mut answer = Err(ApplyFault::Oom);
-    let mut number = 0;
-    for words in script.split('|') {
-        number += 1;
+    for (words, number) in script.split('|').zip(1..=u64::MAX) {
         let Some(batch) = batch(alloc, words)? else {
             return Ok(Err(ApplyFault::Oom));
         };

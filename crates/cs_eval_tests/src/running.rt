@@ -218,11 +218,18 @@ fn has_called(end: &End) -> bool {
         && end.left == 999_994
 }
 
+fn calls(rt: &impl Abort, alloc: Global, code: Code, locals: Locals) -> Result<(), Oom> {
+    let end = run(rt, alloc, &code, locals)?;
+    assert!(rt; has_called(&end));
+    Ok(())
+}
+
 #[test]
 fn callbacks_run_in_their_receivers(rt: HostRuntime) -> Result<(), Fail> {
     let alloc = rt.alloc();
-    let end = run(&rt, alloc, &invoked(alloc)?, only_local(alloc)?)?;
-    assert!(rt; has_called(&end));
+    let code = invoked(alloc)?;
+    let locals = only_local(alloc)?;
+    calls(&rt, alloc, code, locals)?;
     Ok(())
 }
 

@@ -3,7 +3,7 @@ use Rattle.std.proofs.Common.{◌≡◌, ℕ, zero, suc, ◌<◌, Bool, true, fa
 use Rattle.std.specs.Prelude.{◌==◌, if◌then◌else◌, slice_get, slice_set}
 use Rattle.std.proofs.Math.Dec.{eqb-suc-zero, eqb-zero-suc, eqb-suc-suc}
 use Rattle.std.proofs.lemmas.Bool.{cases_Bool}
-use Rattle.plain_meaning.specs.State.{with_field}
+use Rattle.cs_meaning.specs.State.{with_field}
 use Rattle.first_click.specs.declared.component.Field.{Field}
 use Rattle.plain_page.specs.Present.{fields_of}
 

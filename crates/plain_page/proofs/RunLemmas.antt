@@ -8,14 +8,14 @@ use Rattle.cs_ast.specs.declared.value.Value.{Value}
 use Rattle.cs_ast.specs.declared.value.Value.TheVariants.{Int}
 use Rattle.cs_ast.specs.declared.code.Code.{Code}
 use Rattle.hub_messages.specs.declared.outcome.CircuitFault.{CircuitFault}
-use Rattle.plain_meaning.specs.declared.fault.Fault.{Fault}
-use Rattle.plain_meaning.specs.declared.fault.Fault.TheVariants as code
-use Rattle.plain_eval.specs.Run.{Means}
-use Rattle.plain_meaning.specs.State.{Fields, State, state}
-use Rattle.plain_meaning.specs.Outcome.{Outcome, gives, faults, stuck, IsDefined}
-use Rattle.plain_meaning.specs.Meaning.{setting}
-use Rattle.plain_meaning.specs.FirstForms.{IsStatement, HasNumbers}
-use Rattle.plain_meaning.proofs.FirstFormLemmas.{never_stuck, still_numbers}
+use Rattle.cs_meaning.specs.declared.fault.Fault.{Fault}
+use Rattle.cs_meaning.specs.declared.fault.Fault.TheVariants as code
+use Rattle.cs_eval.specs.Run.{Means}
+use Rattle.cs_meaning.specs.State.{Fields, State, state}
+use Rattle.cs_meaning.specs.Outcome.{Outcome, gives, breaks, continues, returns, faults, stuck, IsDefined}
+use Rattle.cs_meaning.specs.Meaning.{setting}
+use Rattle.cs_meaning.specs.FirstForms.{IsStatement, HasNumbers}
+use Rattle.cs_meaning.proofs.FirstFormLemmas.{never_stuck, still_numbers}
 use Rattle.first_click.specs.declared.component.Field.{Field}
 use Rattle.first_click.specs.declared.component.Method.{Method}
 use Rattle.plain_page.specs.Runnable.{IsNumeric}
@@ -58,6 +58,9 @@ numbers_found (field ∷ fields) found (suc k) d within = numbers_found fields (
 
 defined_prop : {A : Type 0} (outcome : Outcome A) → IsProp (IsDefined outcome)
 defined_prop (gives x s) = Unit-prop
+defined_prop (breaks s) = Unit-prop
+defined_prop (continues s) = Unit-prop
+defined_prop (returns x s) = Unit-prop
 defined_prop (faults fault s) = Unit-prop
 defined_prop stuck = λ x y. absurd x
 

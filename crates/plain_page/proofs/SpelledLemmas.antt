@@ -4,7 +4,7 @@ use Rattle.std.specs.Prelude.{All}
 use Rattle.cs_ast.specs.declared.code.Code.{Code}
 use Rattle.cs_ast.specs.declared.code.Code.TheVariants as code
 use Rattle.cs_ast.specs.declared.operators.BinaryOp.TheVariants as op
-use Rattle.plain_meaning.specs.FirstForms.{IsNumber, IsStatement, AreStatements, literal, field, joined, assigned, stepped, block, none, more}
+use Rattle.cs_meaning.specs.FirstForms.{IsNumber, IsStatement, AreStatements, literal, field, joined, assigned, stepped, block, none, more}
 use Rattle.first_click.specs.declared.component.Component.{Component}
 use Rattle.first_click.specs.declared.component.Method.{Method}
 use Rattle.first_click.specs.Component.{Spells}

@@ -1,6 +1,6 @@
 -- The fields of the one instance of a plain stage, which has the number 1.
 use Rattle.std.specs.Prelude.{ℕ, ◌==◌, if◌then◌else◌, List, map, slice_get, None, option_map}
-use Rattle.plain_meaning.specs.State.{Fields}
+use Rattle.cs_meaning.specs.State.{Fields}
 use Rattle.first_click.specs.declared.component.Field.{Field}
 
 -- the values of the fields

@@ -1,7 +1,7 @@
 -- Components whose code can run: it is of the first forms over their own fields, and these are numbers.
 use Rattle.std.specs.Prelude.{◌≡◌, ℕ, ◌<◌, ◌≤◌, ℤ, length, All}
 use Rattle.cs_ast.specs.declared.value.Value.TheVariants.{Int}
-use Rattle.plain_meaning.specs.FirstForms.{IsStatement}
+use Rattle.cs_meaning.specs.FirstForms.{IsStatement}
 use Rattle.first_click.specs.declared.component.Component.{Component}
 use Rattle.first_click.specs.declared.component.Field.{Field}
 use Rattle.first_click.specs.declared.component.Method.{Method}

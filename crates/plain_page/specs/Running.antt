@@ -4,14 +4,14 @@ use Rattle.hub_messages.specs.declared.outcome.CircuitFault.{CircuitFault}
 use Rattle.hub_messages.specs.declared.outcome.CircuitFault.TheVariants as circuit
 use Rattle.cs_ast.specs.declared.code.Code.{Code}
 use Rattle.cs_ast.specs.declared.value.Value.{Value}
-use Rattle.plain_meaning.specs.declared.fault.Fault.{Fault}
-use Rattle.plain_meaning.specs.declared.fault.Fault.TheVariants as code
-use Rattle.plain_meaning.specs.State.{State, state}
-use Rattle.plain_meaning.specs.Outcome.{Outcome, gives, faults, stuck}
-use Rattle.plain_meaning.specs.Meaning.{meaning, setting}
+use Rattle.cs_meaning.specs.declared.fault.Fault.{Fault}
+use Rattle.cs_meaning.specs.declared.fault.Fault.TheVariants as code
+use Rattle.cs_meaning.specs.State.{State, state}
+use Rattle.cs_meaning.specs.Outcome.{Outcome, gives, faults, stuck}
+use Rattle.cs_meaning.specs.Meaning.{body_meaning, setting}
 use Rattle.first_click.specs.declared.component.Field.{Field}
 use Rattle.first_click.specs.declared.component.Method.{Method}
-use Rattle.plain_meaning.specs.FirstForms.{IsStatement}
+use Rattle.cs_meaning.specs.FirstForms.{IsStatement}
 use Rattle.plain_page.specs.Runnable.{IsNumeric}
 use Rattle.plain_page.specs.Present.{fields_of, names_of, no_parameters}
 
@@ -23,9 +23,9 @@ body_at methods position = option_map (λ (method : Method). method.body) (slice
 abbrev pub code_at : List Method → List ℕ → ℕ → Option Code
 code_at methods handlers handler = option_and_then (body_at methods) (slice_get handlers (handler - 1))
 
--- what code means to the instance over these fields, with a million units
+-- what a body means to the instance over these fields, with a million units
 abbrev pub meaning_over : List Field → Code → Outcome Value
-meaning_over fields code = meaning (setting 1 no_parameters [] 0) code (state [] (fields_of fields) [] 1000000)
+meaning_over fields code = body_meaning (setting 1 no_parameters [] 0) code (state [] (fields_of fields) [] 1000000)
 
 -- the same of a handler's code, if there is one
 abbrev pub meaning_at : List Field → Option Code → Outcome Value

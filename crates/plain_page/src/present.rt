@@ -1,7 +1,7 @@
 // The fields of the one instance of a plain stage.
 use cs_ast::Value;
+use cs_eval::Owners;
 use first_click::Field;
-use plain_eval::Owners;
 use sqlite_items::at as item_at;
 
 /// The fields of the instance 1, with their present values.

@@ -5,9 +5,9 @@ ghost use Rattle.plain_page.specs.Running.{code_at, meaning_at, circuit_fault, R
 
 use crate::present::Present;
 use cs_ast::{Bodies, Code};
+use cs_eval::{Fault, Fuel, Locals, run_code};
 use first_click::Method;
 use hub_messages::CircuitFault;
-use plain_eval::{Fault, Fuel, Locals, run_code};
 use sqlite_items::at;
 use std::alloc::Global;
 use text_core::Oom;

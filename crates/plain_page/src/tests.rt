@@ -1,7 +1,7 @@
 // The stage and the screen through their bounds, over a counter: a button that shows how often it was clicked.
 ghost use Rattle.std.specs.Prelude.{◌≡◌, ◌+◌, ◌≤◌, IfOk, OnOk};
 ghost use Rattle.hub_messages.specs.Stage.{made_after};
-ghost use Rattle.plain_meaning.specs.FirstForms.{IsStatement};
+ghost use Rattle.cs_meaning.specs.FirstForms.{IsStatement};
 ghost use Rattle.plain_page.specs.Runnable.{IsRunnable};
 ghost use Rattle.first_click.specs.Weight.{weight};
 

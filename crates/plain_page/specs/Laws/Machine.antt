@@ -10,8 +10,8 @@ use Rattle.hub_messages.specs.declared.stage.Acted.{Acted}
 use Rattle.hub_messages.specs.declared.stage.Acted.TheVariants as acted
 use Rattle.hub_messages.specs.declared.stage.Made.{Made}
 use Rattle.hub_messages.specs.declared.stage.Made.TheVariants.{Batch, Fault}
-use Rattle.plain_meaning.specs.declared.fault.Fault.{Fault as CodeFault}
-use Rattle.plain_meaning.specs.declared.fault.Fault.TheVariants as code
+use Rattle.cs_meaning.specs.declared.fault.Fault.{Fault as CodeFault}
+use Rattle.cs_meaning.specs.declared.fault.Fault.TheVariants as code
 use Rattle.plain_page.specs.Running.{circuit_fault, Ran}
 use Rattle.plain_page.specs.Turning.{Turned}
 use Rattle.plain_page.specs.Machine.{PlainState, plain_tree, tree_of, refusal, told, with_fields, ActsUnless, Renders, plain_machine}

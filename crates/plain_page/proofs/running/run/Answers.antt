@@ -1,5 +1,5 @@
 use Rattle.std.proofs.Common.{refl, sym, ap, ◌∙◌}
-use Rattle.plain_meaning.specs.State.{State, state}
+use Rattle.cs_meaning.specs.State.{State, state}
 use Rattle.plain_page.specs.Present.{fields_of}
 use Rattle.plain_page.specs.Running.{meaning_at, meaning_over, Leaves}
 use Rattle.plain_page.proofs.RunLemmas.{code_defined, handler_has_code, still_able, means_fault}

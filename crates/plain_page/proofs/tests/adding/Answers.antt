@@ -2,7 +2,7 @@ use Rattle.std.proofs.Common.{sym, subst, arith}
 use Rattle.cs_ast.specs.declared.code.Code.{Code}
 use Rattle.cs_ast.specs.declared.code.Code.TheVariants as v
 use Rattle.cs_ast.specs.declared.operators.StepOp.TheVariants as op
-use Rattle.plain_meaning.specs.FirstForms.{IsStatement, stepped}
+use Rattle.cs_meaning.specs.FirstForms.{IsStatement, stepped}
 use Rattle.plain_page.proofs.tests.adding.Goals as goal
 
 pub returns : goal.returns

@@ -1,6 +1,6 @@
 use Rattle.std.proofs.Common.{◌≡◌, ℕ, zero, suc, ◌<◌, ◌≤◌, List, [], ◌∷◌, ◌++◌, arith, sym, ◌∙◌, ap, subst}
 use Rattle.std.specs.Prelude.{All}
-use Rattle.plain_meaning.specs.FirstForms.{IsStatement}
+use Rattle.cs_meaning.specs.FirstForms.{IsStatement}
 use Rattle.first_click.specs.declared.component.Component.{Component}
 use Rattle.first_click.specs.declared.component.Field.{Field}
 use Rattle.first_click.specs.declared.component.Item.{Item}
