@@ -133,8 +133,7 @@ fn tag<'a>(
         return Err(Unread::Syntax(pieces.len() + 1));
     }
     let next = next_number(number)?;
-    let (attributes, next, rest) =
-        attributes_first(alloc, all, is_component(name), next, pieces)?;
+    let (attributes, next, rest) = attributes_first(alloc, all, is_component(name), next, pieces)?;
     let tag = open_tag(number, p, name, attributes)?;
     opened(alloc, tag, next, rest)
 }
