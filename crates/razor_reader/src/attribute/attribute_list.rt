@@ -1,5 +1,5 @@
 // Reads attributes.
-ghost use Rattle.std.specs.Prelude.{◌≡◌, Some, None, MatchOption, IfOk};
+ghost use Rattle.std.specs.Prelude.{◌≡◌, Some, None, MatchOption};
 ghost use Rattle.std.specs.List.{list_any};
 ghost use Rattle.razor_ast.specs.Attributes as grammar;
 ghost use Rattle.razor_reader.specs.AttributeReading as spec;
@@ -19,7 +19,7 @@ use razor_ast::{Attribute, AttributeKind, Given};
 use razor_token::{Piece, PieceKind};
 use sqlite_items::Items;
 use std::alloc::Global;
-use text_core::{Oom, Txt};
+use text_core::Txt;
 
 /// The meaning of an attribute, the next number behind it, and the pieces behind it.
 type Meaning<'a> = Numbered<'a, AttributeKind>;
@@ -170,16 +170,6 @@ fn meaning_of<'a>(
     meaning(alloc, all, form, number, pieces)
 }
 
-fn with_name(p: &Piece, name: &Txt, kind: AttributeKind) -> Result<Attribute, Oom>
-    ensures { IfOk result (λ a. a ≡ grammar.attribute p.now name.now kind) }
-{
-    Ok(Attribute {
-        place: p.place,
-        name: name.clone()?,
-        kind,
-    })
-}
-
 /// An attribute of a tag, which is a component's or not, by its name and the pieces behind that.
 fn named<'a>(
     alloc: Global,
@@ -192,8 +182,14 @@ fn named<'a>(
 ) -> Numbered<'a, Attribute>
     ensures { Gives (λ x. (x.0, x.1, x.2.now)) result (spec.named all.now component number p.now name.now pieces.now) }
 {
+    let said = name.clone()?;
     let (kind, next, rest) = meaning_of(alloc, all, component, number, name, pieces)?;
-    Ok((with_name(p, name, kind)?, next, rest))
+    let attribute = Attribute {
+        place: p.place,
+        name: said,
+        kind,
+    };
+    Ok((attribute, next, rest))
 }
 
 /// The attribute that stands first.
