@@ -29,61 +29,131 @@ fn statement(out: &mut String, a: &Stmt) -> Result<(), Fail> {
     Ok(())
 }
 
-#[cycle(outline)]
-fn node(alloc: Global, out: &mut String, node: &TNode) -> Result<(), Fail> {
+fn word(out: &mut String, word: &str) -> Result<(), Fail> {
+    out.push_str(word)?;
+    Ok(())
+}
+
+fn worded(out: &mut String, word: &str, a: &Expr) -> Result<(), Fail> {
+    out.push_str(word)?;
+    out.push_str(form(a))?;
+    Ok(())
+}
+
+fn tag(
+    alloc: Global,
+    out: &mut String,
+    n: u32,
+    name: &Ident,
+    all: &Items<Attribute>,
+) -> Result<(), Fail> {
+    out.push_str(name.name.as_str())?;
+    number(alloc, out, n)?;
+    attributes(alloc, out, all.as_slice())
+}
+
+fn for_loop(
+    alloc: Global,
+    out: &mut String,
+    n: u32,
+    start: &Option<Stmt>,
+    condition: &Option<Expr>,
+    step: &Option<Expr>,
+) -> Result<(), Fail> {
+    out.push_str("for")?;
+    number(alloc, out, n)?;
+    out.push_str(" ")?;
+    out.push_str(some_statement_form(start))?;
+    out.push_str(" ")?;
+    out.push_str(some_form(condition))?;
+    out.push_str(" ")?;
+    out.push_str(some_form(step))?;
+    Ok(())
+}
+
+fn for_each(
+    alloc: Global,
+    out: &mut String,
+    n: u32,
+    name: &Ident,
+    list: &Expr,
+) -> Result<(), Fail> {
+    out.push_str("foreach")?;
+    number(alloc, out, n)?;
+    out.push_str(" ")?;
+    out.push_str(name.name.as_str())?;
+    worded(out, " ", list)
+}
+
+fn while_loop(alloc: Global, out: &mut String, n: u32, condition: &Expr) -> Result<(), Fail> {
+    out.push_str("while")?;
+    number(alloc, out, n)?;
+    worded(out, " ", condition)
+}
+
+/// What stands before the parts inside.
+fn head(alloc: Global, out: &mut String, node: &TNode) -> Result<(), Fail> {
     match node {
         TNode::Element {
             number,
             name,
             attributes,
-            children,
             ..
-        } => tag(alloc, out, *number, name, attributes, children.as_slice()),
+        } => tag(alloc, out, *number, name, attributes),
         TNode::Child {
             number,
             name,
             attributes,
-            children,
             ..
-        } => tag(alloc, out, *number, name, attributes, children.as_slice()),
+        } => tag(alloc, out, *number, name, attributes),
         TNode::Text { number, text, .. } => quoted(alloc, out, *number, "'", text),
         TNode::Raw { number, text, .. } => quoted(alloc, out, *number, "&'", text),
         TNode::Content { number, value, .. } => shown(alloc, out, *number, value),
-        TNode::Group { items, .. } => group(alloc, out, ":", items.as_slice()),
+        TNode::Group { .. } => word(out, ":"),
         TNode::Statement(a) => statement(out, a),
-        TNode::Block { items, .. } => group(alloc, out, "block", items.as_slice()),
-        TNode::If {
-            condition,
-            yes,
-            no,
-            ..
-        } => branches(alloc, out, condition, yes.get(), no),
-        TNode::Switch {
-            value,
-            sections,
-            ..
-        } => { switch(alloc, out, value, sections.as_slice()) }
+        TNode::Block { .. } => word(out, "block"),
+        TNode::If { condition, .. } => worded(out, "if ", condition),
+        TNode::Switch { value, .. } => worded(out, "switch ", value),
         TNode::For {
             number,
             start,
             condition,
             step,
-            body,
             ..
-        } => for_loop(alloc, out, *number, start, condition, step, body.get()),
+        } => for_loop(alloc, out, *number, start, condition, step),
         TNode::ForEach {
             number,
             name,
             list,
-            body,
             ..
-        } => for_each(alloc, out, *number, name, list, body.get()),
+        } => for_each(alloc, out, *number, name, list),
         TNode::While {
             number,
             condition,
-            body,
             ..
-        } => while_loop(alloc, out, *number, condition, body.get()),
+        } => while_loop(alloc, out, *number, condition),
+    }
+}
+
+#[cycle(outline)]
+fn node(alloc: Global, out: &mut String, node: &TNode) -> Result<(), Fail> {
+    head(alloc, out, node)?;
+    inside(alloc, out, node)
+}
+
+#[cycle(outline)]
+fn inside(alloc: Global, out: &mut String, node: &TNode) -> Result<(), Fail> {
+    match node {
+        TNode::Element { children, .. } => list(alloc, out, children.as_slice()),
+        TNode::Child { children, .. } => list(alloc, out, children.as_slice()),
+        TNode::Group { items, .. } => list(alloc, out, items.as_slice()),
+        TNode::Block { items, .. } => list(alloc, out, items.as_slice()),
+        TNode::If { yes, no, .. } => branches(alloc, out, yes.get(), no),
+        TNode::Switch { sections, .. } => switch(alloc, out, sections.as_slice()),
+        TNode::For { body, .. } => behind(alloc, out, " ", body.get()),
+        TNode::ForEach { body, .. } => behind(alloc, out, " ", body.get()),
+        TNode::While { body, .. } => behind(alloc, out, " ", body.get()),
+        _ => Ok(()),
     }
 }
 
@@ -98,24 +168,9 @@ fn list(alloc: Global, out: &mut String, nodes: &[TNode]) -> Result<(), Fail> {
 }
 
 #[cycle(outline)]
-fn tag(
-    alloc: Global,
-    out: &mut String,
-    n: u32,
-    name: &Ident,
-    all: &Items<Attribute>,
-    children: &[TNode],
-) -> Result<(), Fail> {
-    out.push_str(name.name.as_str())?;
-    number(alloc, out, n)?;
-    attributes(alloc, out, all.as_slice())?;
-    list(alloc, out, children)
-}
-
-#[cycle(outline)]
-fn group(alloc: Global, out: &mut String, word: &str, items: &[TNode]) -> Result<(), Fail> {
+fn behind(alloc: Global, out: &mut String, word: &str, inner: &TNode) -> Result<(), Fail> {
     out.push_str(word)?;
-    list(alloc, out, items)
+    node(alloc, out, inner)
 }
 
 #[cycle(outline)]
@@ -127,21 +182,12 @@ fn otherwise(alloc: Global, out: &mut String, no: &Option<Boxed<TNode>>) -> Resu
 }
 
 #[cycle(outline)]
-fn behind(alloc: Global, out: &mut String, word: &str, inner: &TNode) -> Result<(), Fail> {
-    out.push_str(word)?;
-    node(alloc, out, inner)
-}
-
-#[cycle(outline)]
 fn branches(
     alloc: Global,
     out: &mut String,
-    condition: &Expr,
     yes: &TNode,
     no: &Option<Boxed<TNode>>,
 ) -> Result<(), Fail> {
-    out.push_str("if ")?;
-    out.push_str(form(condition))?;
     behind(alloc, out, " ", yes)?;
     otherwise(alloc, out, no)
 }
@@ -154,72 +200,11 @@ fn section(alloc: Global, out: &mut String, it: &TSection) -> Result<(), Fail> {
 }
 
 #[cycle(outline)]
-fn switch(
-    alloc: Global,
-    out: &mut String,
-    value: &Expr,
-    sections: &[TSection],
-) -> Result<(), Fail> {
-    out.push_str("switch ")?;
-    out.push_str(form(value))?;
+fn switch(alloc: Global, out: &mut String, sections: &[TSection]) -> Result<(), Fail> {
     for it in sections {
         section(alloc, out, it)?;
     }
     Ok(())
-}
-
-#[cycle(outline)]
-fn for_loop(
-    alloc: Global,
-    out: &mut String,
-    n: u32,
-    start: &Option<Stmt>,
-    condition: &Option<Expr>,
-    step: &Option<Expr>,
-    body: &TNode,
-) -> Result<(), Fail> {
-    out.push_str("for")?;
-    number(alloc, out, n)?;
-    out.push_str(" ")?;
-    out.push_str(some_statement_form(start))?;
-    out.push_str(" ")?;
-    out.push_str(some_form(condition))?;
-    out.push_str(" ")?;
-    out.push_str(some_form(step))?;
-    behind(alloc, out, " ", body)
-}
-
-#[cycle(outline)]
-fn for_each(
-    alloc: Global,
-    out: &mut String,
-    n: u32,
-    name: &Ident,
-    items: &Expr,
-    body: &TNode,
-) -> Result<(), Fail> {
-    out.push_str("foreach")?;
-    number(alloc, out, n)?;
-    out.push_str(" ")?;
-    out.push_str(name.name.as_str())?;
-    out.push_str(" ")?;
-    out.push_str(form(items))?;
-    behind(alloc, out, " ", body)
-}
-
-#[cycle(outline)]
-fn while_loop(
-    alloc: Global,
-    out: &mut String,
-    n: u32,
-    condition: &Expr,
-    body: &TNode,
-) -> Result<(), Fail> {
-    out.push_str("while")?;
-    number(alloc, out, n)?;
-    out.push_str(" ")?;
-    out.push_str(form(condition))?;
-    behind(alloc, out, " ", body)
 }
 
 pub fn outline(alloc: Global, component: &Component) -> Result<String, Fail> {
