@@ -54,11 +54,12 @@ pub record Tag : Type 0 where
   pub context : Option Ident
   pub content : Content
 
--- a part of a template: whether it is a text of white space alone; the tag that it is, if it may be that of a fragment; the number of the node whose key is that of a turn with this body, or of this item in it; what it does besides computing; what it makes, and the scope behind it; and the bodies and the templates of fragments in it, by their numbers
+-- a part of a template: whether it is a text of white space alone; the tag that it is, if it may be that of a fragment; its number where it is a tag with a key; the number of the tag whose key is that of a turn with this body; what it does besides computing; what it makes, and the scope behind it; and the bodies and the templates of fragments in it, by their numbers
 pub record Part : Type 0 where
   pub blank : Bool
   pub tag : Option Tag
   pub keyed : Option ℕ
+  pub turn_key : Option ℕ
   pub does : Deed → Bool
   pub makes : Makes
   pub behind : Scope → Judged Scope
@@ -88,6 +89,7 @@ placed_in (one ∷ others) home s = one.placed home s ++ placed_behind (one.behi
 abbrev pub any_does : List Part → Deed → Bool
 any_does parts deed = list_any (λ one. one.does deed) parts
 
+-- the first tag with a key directly among parts
 abbrev pub first_keyed : List Part → Option ℕ
 first_keyed [] = None
 first_keyed (one ∷ others) = option_or one.keyed (first_keyed others)
@@ -106,7 +108,7 @@ nothing_placed home s = []
 
 -- a part that is no tag and declares nothing
 abbrev pub plain : (Deed → Bool) → Makes → (Home → Scope → List (ℕ × Placed)) → Part
-plain does makes placed = record { blank = false; tag = None; keyed = None; does = does; makes = makes; behind = fine; placed = placed }
+plain does makes placed = record { blank = false; tag = None; keyed = None; turn_key = None; does = does; makes = makes; behind = fine; placed = placed }
 
 -- the parts that count: all but white space alone
 abbrev pub counted : List Part → List Part
@@ -221,6 +223,7 @@ part (TNode-F.Child number place name attributes children) =
       blank = false;
       tag = Some (record { number = number; name = name.name; place = place; context = context_in attributes; content = content_of children });
       keyed = keyed_tag number attributes;
+      turn_key = None;
       does = λ deed. attributes_do deed attributes || any_does children deed;
       makes = component number name.name attributes children;
       behind = fine;
@@ -231,7 +234,7 @@ part (TNode-F.Raw number place said) = plain (λ deed. false) (node.raw number s
 part (TNode-F.Content number place a) = plain (λ deed. expression_does deed a) (node.content number a) nothing_placed
 part (TNode-F.Group place items) = plain (any_does items) (in_order items) (placed_in items)
 part (TNode-F.Statement one) = record (plain (λ deed. statement_does deed one) (node.plain_statement one) nothing_placed) { behind = behind_statement one }
-part (TNode-F.Block place items) = record (plain (any_does items) (node.block (in_order items)) (placed_in items)) { keyed = first_keyed items }
+part (TNode-F.Block place items) = record (plain (any_does items) (node.block (in_order items)) (placed_in items)) { turn_key = first_keyed items }
 part (TNode-F.If place test holds fails) =
     plain (λ deed. expression_does deed test || holds.does deed || if_any (λ (one : Part). one.does deed) fails)
     (node.branch test holds.makes (option_map (λ (one : Part). one.makes) fails))
@@ -242,14 +245,14 @@ part (TNode-F.Switch place a sections) =
     (λ home s. flat_map (λ (one : Part_of_switch). one.placed home s) sections)
 part (TNode-F.For number place start test step body) =
     plain (λ deed. if_any (statement_does deed) start || if_any (expression_does deed) test || if_any (expression_does deed) step || body.does deed)
-    (node.for_loop number start test step body.keyed body.makes)
+    (node.for_loop number start test step body.turn_key body.makes)
     (λ home s. placed_behind (behind_start start s) (body.placed home))
 part (TNode-F.ForEach number place name list body) =
     plain (λ deed. expression_does deed list || body.does deed)
-    (node.for_each number name.name list body.keyed body.makes)
+    (node.for_each number name.name list body.turn_key body.makes)
     (λ home s. placed_behind (behind_item name.name list s) (body.placed home))
 part (TNode-F.While number place test body) =
-    plain (λ deed. expression_does deed test || body.does deed) (node.while_loop number test body.keyed body.makes) body.placed
+    plain (λ deed. expression_does deed test || body.does deed) (node.while_loop number test body.turn_key body.makes) body.placed
 
 unfoldable pub part_of : TNode → Part
 part_of =

@@ -1,2 +1,4 @@
 mod TemplateLaws
+mod FirstLaws
+mod FactLaws
 mod Examples

@@ -25,7 +25,6 @@ use Rattle.cs_forbidden.specs.Trees.{value_in}
 use Rattle.razor_rules.specs.Restrictions.{in_lifecycle}
 use Rattle.razor_rules.specs.Scopes.{Home, initial_scope, member_scope, with_arguments, with_result}
 use Rattle.razor_rules.specs.WrittenTypes.{argument_type, parameter_type}
-use Rattle.razor_rules.specs.Records.{contains_itself}
 use Rattle.razor_rules.specs.Bodies.{judged_body, reaches_end}
 
 -- the methods that the system calls
@@ -40,7 +39,8 @@ abbrev pub is_empty : List Argument → Bool
 is_empty [] = true
 is_empty (one ∷ others) = false
 
-module _ (home : Home) (effects : List (ℕ × Effect)) where
+-- the effects of methods by their numbers, and whether the record of a name contains itself, are handed in
+module _ (home : Home) (effects : List (ℕ × Effect)) (circular : List ℕ → Bool) where
   -- the initial value of a field or a parameter of a type
   abbrev pub initial_rules : Option Expr → CsType → List Broken
   initial_rules None cs_type = []
@@ -70,7 +70,7 @@ module _ (home : Home) (effects : List (ℕ × Effect)) where
 
   unfoldable pub record_rules : Ident → List Argument → List Broken
   record_rules name parts =
-      broken_unless (not (contains_itself home.records name.name)) RecursiveRecord name.place
+      broken_unless (not (circular name.name)) RecursiveRecord name.place
       ++ flat_map (λ one. found (written home.records one.cs_type)) parts
       ++ repeated DuplicateName [] (map (λ one. one.name) parts)
 

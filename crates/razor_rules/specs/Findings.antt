@@ -1,5 +1,6 @@
 -- Broken rules, and which of several comes first.
-use Rattle.std.specs.Prelude.{ℕ, nat_lt, ◌==◌, ◌&&◌, ◌||◌, Bool, if◌then◌else◌, List, [], ◌∷◌, Option, Some, None}
+use Rattle.std.specs.Prelude.{◌≡◌, false, ℕ, nat_lt, ◌==◌, ◌&&◌, ◌||◌, Bool, if◌then◌else◌, List, [], ◌∷◌, Option, Some, None}
+use Rattle.std.specs.List.{All, Contains}
 use Rattle.text_core.specs.declared.place.Place.{Place}
 use Rattle.cs_rules.specs.declared.rule.Rule.{Rule}
 use Rattle.cs_rules.specs.declared.rule.Rule.TheVariants as r
@@ -68,3 +69,8 @@ the_first x (Some y) = if comes_before y x then y else x
 abbrev pub first_of : List Broken → Option Broken
 first_of [] = None
 first_of (x ∷ xs) = Some (the_first x (first_of xs))
+
+-- it is one of them, and none of them comes before it; or there are none
+abbrev pub IsFirst : List Broken → Option Broken → Type 0
+IsFirst xs None = xs ≡ []
+IsFirst xs (Some x) = Contains xs x × All (λ y. comes_before y x ≡ false) xs

@@ -13,6 +13,7 @@ use Rattle.razor_ast.specs.Components.{SpellsFile}
 use Rattle.razor_rules.specs.Findings.{Broken, broken_unless, first_of}
 use Rattle.razor_rules.specs.Names.{is_among}
 use Rattle.razor_rules.specs.Numbers.{first_number}
+use Rattle.razor_rules.specs.Records.{IsCircular}
 use Rattle.razor_rules.specs.Scopes.{Home, records_of, effects_in}
 use Rattle.razor_rules.specs.Grounds.{top}
 use Rattle.razor_rules.specs.Declarations.{members_rules}
@@ -39,24 +40,29 @@ name_rules earlier component =
     broken_unless (not (is_among component.name (map (λ one. one.name) earlier))) DuplicateComponent first_place
     ++ broken_unless (is_component_name component.name) BadComponentName first_place
 
--- the rules that a file breaks, behind these files, whose methods have these effects
-unfoldable pub file_rules : List Component → Home → Component → List (ℕ × Effect) → List Broken
-file_rules earlier home component effects =
+-- what is told of a program: the effects of the methods of each component, and whether the record of a name contains itself
+pub record Facts : Type 0 where
+  pub effects : List (List Effect)
+  pub circular : List ℕ → Bool
+
+-- the rules that a file breaks, behind these files, where its methods have these effects and such records contain themselves
+unfoldable pub file_rules : List Component → Home → Component → List (ℕ × Effect) → (List ℕ → Bool) → List Broken
+file_rules earlier home component effects circular =
     name_rules earlier component
-    ++ members_rules home effects (records_of earlier)
+    ++ members_rules home effects circular (records_of earlier)
     ++ in_order (map (part_of home) component.nodes) (top home effects)
 
 -- the rules that the file at a position breaks
-abbrev pub of_file : List Component → ℕ → Component → List Effect → List Broken
-of_file components position one effects =
-    file_rules (take position components) (home_of components position one) one (effects_in (home_of components position one) effects)
+abbrev pub of_file : List Component → (List ℕ → Bool) → ℕ → Component → List Effect → List Broken
+of_file components circular position one effects =
+    file_rules (take position components) (home_of components position one) one (effects_in (home_of components position one) effects) circular
 
 -- the same for each file from a position on
-abbrev pub files_rules : List Component → ℕ → List Component → List (List Effect) → List (List Broken)
-files_rules components position [] effects = []
-files_rules components position (one ∷ others) [] = []
-files_rules components position (one ∷ others) (effect ∷ effects) =
-    of_file components position one effect ∷ files_rules components (position + 1) others effects
+abbrev pub files_rules : List Component → (List ℕ → Bool) → ℕ → List Component → List (List Effect) → List (List Broken)
+files_rules components circular position [] effects = []
+files_rules components circular position (one ∷ others) [] = []
+files_rules components circular position (one ∷ others) (effect ∷ effects) =
+    of_file components circular position one effect ∷ files_rules components circular (position + 1) others effects
 
 -- a broken rule in the file at a position
 pub record Finding : Type 0 where
@@ -72,17 +78,18 @@ abbrev pub first_in : ℕ → List (List Broken) → Option Finding
 first_in file [] = None
 first_in file (one ∷ others) = finding_or file (first_of one) (first_in (file + 1) others)
 
--- the first broken rule of a program whose methods have these effects
-abbrev pub first_broken : List Component → List (List Effect) → Option Finding
-first_broken components effects = first_in 0 (files_rules components 0 components effects)
+-- the first broken rule of a program of which this is told
+abbrev pub first_broken : List Component → Facts → Option Finding
+first_broken components facts = first_in 0 (files_rules components facts.circular 0 components facts.effects)
 
--- the effects of the methods of components, each in its own
-abbrev pub AllTold : List Component → List (List Effect) → Type 0
-AllTold = AllZip (λ component effects. Told component.members component.members effects)
+-- it is so
+pub record AreTrue (components : List Component) (facts : Facts) : Type 0 where
+  pub effects : AllZip (λ component effects. Told component.members component.members effects) components facts.effects
+  pub circular : IsCircular (records_of components) facts.circular
 
 -- the first broken rule of a program is this one, or it breaks none
 abbrev pub BreaksFirst : List Component → Option Finding → Type 0
-BreaksFirst components finding = (effects : List (List Effect)) × AllTold components effects × (first_broken components effects ≡ finding)
+BreaksFirst components finding = (facts : Facts) × AreTrue components facts × (first_broken components facts ≡ finding)
 
 -- a component that some file spells
 abbrev pub IsSpelled : Component → Type 0

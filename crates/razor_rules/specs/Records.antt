@@ -1,5 +1,5 @@
 -- Records that contain themselves.
-use Rattle.std.specs.Prelude.{ℕ, zero, suc, ◌||◌, Bool, false, List, [], length, Option, Some, None, bytes_eq}
+use Rattle.std.specs.Prelude.{◌≡◌, ◌↔◌, IsTrue, ℕ, Bool, true, false, List, [], Option, Some, None, bytes_eq}
 use Rattle.std.specs.List.{list_any}
 use Rattle.cs_ast.specs.declared.cs_type.CsType.{CsType}
 use Rattle.cs_ast.specs.declared.cs_type.CsType.TheOpen.{CsType-F}
@@ -21,17 +21,19 @@ abbrev pub parts_declared : Option Declared → List Argument
 parts_declared None = []
 parts_declared (Some found) = found.parts
 
-abbrev pub if_held : (List ℕ → Bool) → Option (List ℕ) → Bool
-if_held test None = false
-if_held test (Some name) = test name
+abbrev pub is_named : List ℕ → Option (List ℕ) → Bool
+is_named name None = false
+is_named name (Some held) = bytes_eq held name
 
--- whether a record has another among its parts, their parts and so on, at most so many levels down
-abbrev pub holds_within : ℕ → List Member → List ℕ → List ℕ → Bool
-holds_within zero records other name = false
-holds_within (suc depth) records other name =
-    list_any (λ part. if_held (λ held. bytes_eq held other || holds_within depth records other held) (held_record (type_of part.cs_type)))
-    (parts_declared (record_named records name))
+-- whether the record of a name has a part that holds another
+unfoldable pub has_part : List Member → List ℕ → List ℕ → Bool
+has_part records other name = list_any (λ part. is_named other (held_record (type_of part.cs_type))) (parts_declared (record_named records name))
 
--- whether a record contains itself: there are no more levels than records without one that stands twice
-unfoldable pub contains_itself : List Member → List ℕ → Bool
-contains_itself records name = holds_within (length records) records name name
+-- a record contains another where it has a part that holds it, or one that holds a record which contains it
+pub data Holds (records : List Member) (other : List ℕ) : List ℕ → Type 0 where
+  itself : (name : List ℕ) → has_part records other name ≡ true → Holds records other name
+  through : (name part : List ℕ) → has_part records part name ≡ true → Holds records other part → Holds records other name
+
+-- it is told of each name whether the record of that name contains itself
+abbrev pub IsCircular : List Member → (List ℕ → Bool) → Type 0
+IsCircular records circular = (name : List ℕ) → IsTrue (circular name) ↔ Holds records name name
