@@ -65,10 +65,10 @@ plan-counts from to wires n =
     let removes = counts-removals 0 to in
     let puts = counts-additions 0 from wires n in
     let moves : counts_in (ended (entries_from 0 m)) ≡ record no_edits { moves = moved_slots from to; ends = min 1 (moved_slots from to) } =
-        counts-ended (entries_from 0 m) ∙ ap (λ k. record no_edits { moves = k; ends = min 1 k }) (length-entries 0 m) in
+    counts-ended (entries_from 0 m) ∙ ap (λ k. record no_edits { moves = k; ends = min 1 k }) (length-entries 0 m) in
     counts-append (removals_from 0 to) (additions_from 0 from wires ++ ended (entries_from 0 m))
     ∙ ap (λ (c : Counts). plus c (counts_in (additions_from 0 from wires ++ ended (entries_from 0 m)))) removes
     ∙ ap (plus (record no_edits { remove = alone to })) (counts-append (additions_from 0 from wires) (ended (entries_from 0 m))
-        ∙ ap (λ (c : Counts). plus c (counts_in (ended (entries_from 0 m)))) puts
-        ∙ ap (plus (record no_edits { prepend = alone from })) moves)
+    ∙ ap (λ (c : Counts). plus c (counts_in (ended (entries_from 0 m)))) puts
+    ∙ ap (plus (record no_edits { prepend = alone from })) moves)
     ∙ sums (alone from) (alone to) (moved_slots from to) (min 1 (moved_slots from to))

@@ -47,7 +47,7 @@ turns-none batch nodes above before after is = same_tree nodes above before afte
 pub turns-append : (batch : ℕ) (edits more : List Edit) (xs ys zs : List BrowserNode) → Turns batch edits xs ys → Turns batch more ys zs → Turns batch (edits ++ more) xs zs
 turns-append batch edits more xs ys zs first then_more above before after is =
     let parts = between (with_components (all_put_in edits) before) (with_components (all_put_in more)) after
-        (sym (ap (λ numbers. with_components numbers before) (put_in-append edits more) ∙ components-append (all_put_in edits) (all_put_in more) before) ∙ is) in
+    (sym (ap (λ numbers. with_components numbers before) (put_in-append edits more) ∙ components-append (all_put_in edits) (all_put_in more) before) ∙ is) in
     edited-append batch edits more (focused xs above before)
     ∙ ap (λ (r : Result Focus ApplyFault). and_then r (all_edited batch more)) (first above before parts.0 parts.1)
     ∙ then_more above parts.0 after parts.2

@@ -1,0 +1,4 @@
+pub mod LabelLemmas
+pub mod FoundLemmas
+pub mod SlotLemmas
+pub mod CountLemmas

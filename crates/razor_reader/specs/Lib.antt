@@ -1,0 +1,17 @@
+pub mod Marks
+pub mod Reading
+pub mod TokenReading
+pub mod CodeReading
+pub mod HeadReading
+pub mod NameReading
+pub mod TextReading
+pub mod AttributeReading
+pub mod StatementReading
+pub mod BeginReading
+pub mod ContentReading
+pub mod GoingReading
+pub mod ItemReading
+pub mod WholeReading
+pub mod FileReading
+pub mod Answers
+pub mod PieceAnswers
