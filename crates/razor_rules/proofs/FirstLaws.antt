@@ -4,7 +4,8 @@ use mathlib.Core.Logic.{inl, inr}
 use Rattle.std.proofs.lemmas.Bool.{ltb-true, eqb-true, lt-ltb, eq-eqb, or_cases, and_parts, and_from, cases_Bool, cases_order, both_ways}
 use Rattle.std.specs.List.{All}
 use Rattle.std.proofs.lemmas.List.Elements.{All-weaker, All-cons, All-nil, Contains-append_left, Contains-append_right, Contains-push}
-use Rattle.razor_rules.specs.Findings.{Broken, comes_before, number_of, the_first, first_of, IsFirst}
+use Rattle.razor_rules.specs.declared.finding.Broken.{Broken}
+use Rattle.razor_rules.specs.Findings.{comes_before, number_of, the_first, first_of, merged, IsFirst}
 
 -- one triple of numbers before another
 abbrev below : ℕ → ℕ → ℕ → ℕ → ℕ → ℕ → Bool
@@ -148,11 +149,6 @@ in_front x xs (Some y) it = chosen (cases_Bool (comes_before y x))
 pub is_first : (xs : List Broken) → IsFirst xs (first_of xs)
 is_first [] = refl
 is_first (x ∷ xs) = in_front x xs (first_of xs) (is_first xs)
-
--- the first of either
-abbrev pub merged : Option Broken → Option Broken → Option Broken
-merged None other = other
-merged (Some x) other = Some (the_first x other)
 
 three : (x y z : Broken) → the_first x (Some (the_first y (Some z))) ≡ the_first (the_first x (Some y)) (Some z)
 three x y z = elim (cases_Bool (comes_before y x)) [

@@ -16,7 +16,8 @@ use Rattle.cs_rules.specs.declared.rule.Rule.TheVariants.{DuplicateName, BadLife
 use Rattle.cs_rules.specs.Judged.{◌>>=◌}
 use Rattle.cs_rules.specs.Types.{fitting}
 use Rattle.cs_rules.specs.Written.{written}
-use Rattle.razor_rules.specs.Findings.{Broken, found, found_then, broken_unless}
+use Rattle.razor_rules.specs.declared.finding.Broken.{Broken}
+use Rattle.razor_rules.specs.Findings.{found, found_then, broken_unless}
 use Rattle.razor_rules.specs.Members.{name_of, is_record, result_type}
 use Rattle.razor_rules.specs.Names.{repeated}
 use Rattle.cs_forbidden.specs.declared.forbidden.Forbidden.{Forbidden}

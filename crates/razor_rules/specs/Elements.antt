@@ -14,7 +14,8 @@ use Rattle.razor_ast.specs.declared.attribute.AttributeKind.{AttributeKind}
 use Rattle.razor_ast.specs.declared.attribute.AttributeKind.TheVariants as ak
 use Rattle.razor_ast.specs.declared.attribute.ValuePart.{ValuePart}
 use Rattle.razor_ast.specs.declared.attribute.ValuePart.TheVariants as part
-use Rattle.razor_rules.specs.Findings.{Broken, found, broken_unless}
+use Rattle.razor_rules.specs.declared.finding.Broken.{Broken}
+use Rattle.razor_rules.specs.Findings.{found, broken_unless}
 use Rattle.razor_rules.specs.Names.{name_at, repeated}
 use Rattle.razor_rules.specs.Scopes.{Home}
 use Rattle.razor_rules.specs.Grounds.{Ground}

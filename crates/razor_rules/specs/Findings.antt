@@ -4,13 +4,10 @@ use Rattle.std.specs.List.{All, Contains}
 use Rattle.text_core.specs.declared.place.Place.{Place}
 use Rattle.cs_rules.specs.declared.rule.Rule.{Rule}
 use Rattle.cs_rules.specs.declared.rule.Rule.TheVariants as r
+use Rattle.razor_rules.specs.declared.finding.Broken.{Broken}
 use Rattle.cs_rules.specs.Judged.{Judged, fine, breaks}
 
--- a rule that is broken in a file, and where
-pub record Broken : Type 0 where
-  pub rule : Rule
-  pub place : Place
-
+-- a rule that is broken at a place
 abbrev pub broken : Rule → Place → Broken
 broken rule place = record { rule = rule; place = place }
 
@@ -74,3 +71,8 @@ first_of (x ∷ xs) = Some (the_first x (first_of xs))
 abbrev pub IsFirst : List Broken → Option Broken → Type 0
 IsFirst xs None = xs ≡ []
 IsFirst xs (Some x) = Contains xs x × All (λ y. comes_before y x ≡ false) xs
+
+-- the first of either
+abbrev pub merged : Option Broken → Option Broken → Option Broken
+merged None other = other
+merged (Some x) other = Some (the_first x other)

@@ -4,7 +4,8 @@ use Rattle.std.specs.List.{list_any}
 use Rattle.cs_ast.specs.declared.identifier.Ident.{Ident}
 use Rattle.text_core.specs.declared.place.Place.{Place}
 use Rattle.cs_rules.specs.declared.rule.Rule.{Rule}
-use Rattle.razor_rules.specs.Findings.{Broken, broken_unless}
+use Rattle.razor_rules.specs.declared.finding.Broken.{Broken}
+use Rattle.razor_rules.specs.Findings.{broken_unless}
 
 abbrev pub is_among : List ℕ → List (List ℕ) → Bool
 is_among name names = list_any (bytes_eq name) names

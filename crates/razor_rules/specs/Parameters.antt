@@ -16,7 +16,8 @@ use Rattle.razor_ast.specs.declared.attribute.Attribute.{Attribute}
 use Rattle.razor_ast.specs.declared.attribute.Given.{Given}
 use Rattle.razor_ast.specs.declared.attribute.Given.TheVariants as given
 use Rattle.razor_ast.specs.declared.component.Component.{Component}
-use Rattle.razor_rules.specs.Findings.{Broken, broken, found}
+use Rattle.razor_rules.specs.declared.finding.Broken.{Broken}
+use Rattle.razor_rules.specs.Findings.{broken, found}
 use Rattle.razor_rules.specs.Scopes.{Home}
 use Rattle.razor_rules.specs.WrittenTypes.{unknown_parameter}
 use Rattle.razor_rules.specs.Grounds.{Ground}

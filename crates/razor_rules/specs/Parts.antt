@@ -8,7 +8,7 @@ use Rattle.cs_ast.specs.declared.scope.Scope.{Scope}
 use Rattle.cs_effects.specs.declared.deed.Deed.{Deed}
 use Rattle.cs_rules.specs.declared.checked.ExprType.{ExprType}
 use Rattle.cs_rules.specs.Judged.{Judged, fine, breaks}
-use Rattle.razor_rules.specs.Findings.{Broken}
+use Rattle.razor_rules.specs.declared.finding.Broken.{Broken}
 use Rattle.razor_rules.specs.Grounds.{Ground, behind_local, mark_of}
 use Rattle.razor_rules.specs.TemplateDeeds.{changing}
 

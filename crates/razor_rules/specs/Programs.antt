@@ -10,7 +10,8 @@ use Rattle.cs_rules.specs.declared.rule.Rule.TheVariants.{DuplicateComponent, Ba
 use Rattle.razor_token.specs.Tags.{is_component}
 use Rattle.razor_ast.specs.declared.component.Component.{Component}
 use Rattle.razor_ast.specs.Components.{SpellsFile}
-use Rattle.razor_rules.specs.Findings.{Broken, broken_unless, first_of}
+use Rattle.razor_rules.specs.declared.finding.Broken.{Broken}
+use Rattle.razor_rules.specs.Findings.{broken_unless, first_of}
 use Rattle.razor_rules.specs.Names.{is_among}
 use Rattle.razor_rules.specs.Numbers.{first_number}
 use Rattle.razor_rules.specs.Records.{IsCircular}

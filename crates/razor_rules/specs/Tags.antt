@@ -9,7 +9,8 @@ use Rattle.cs_rules.specs.declared.rule.Rule.TheVariants.{UnknownComponent, Unkn
 use Rattle.razor_ast.specs.declared.attribute.Attribute.{Attribute}
 use Rattle.razor_ast.specs.declared.attribute.AttributeKind.{AttributeKind}
 use Rattle.razor_ast.specs.declared.attribute.AttributeKind.TheVariants as ak
-use Rattle.razor_rules.specs.Findings.{Broken, broken, found, found_then}
+use Rattle.razor_rules.specs.declared.finding.Broken.{Broken}
+use Rattle.razor_rules.specs.Findings.{broken, found, found_then}
 use Rattle.razor_rules.specs.Names.{name_at, repeated}
 use Rattle.razor_rules.specs.Grounds.{Ground, in_fragment, with_new}
 use Rattle.razor_rules.specs.Values.{key}

@@ -23,7 +23,8 @@ use Rattle.razor_ast.specs.declared.node.TNode.{TNode}
 use Rattle.razor_ast.specs.declared.node.TNode.TheOpen.{TNode-F}
 use Rattle.razor_ast.specs.declared.node.TNode.TheFolds.{fold-TNode}
 use Rattle.cs_forbidden.specs.declared.forbidden.Mark.TheVariants.{OfFor}
-use Rattle.razor_rules.specs.Findings.{Broken, broken, found, found_then}
+use Rattle.razor_rules.specs.declared.finding.Broken.{Broken}
+use Rattle.razor_rules.specs.Findings.{broken, found, found_then}
 use Rattle.cs_forbidden.specs.Trees.{statement, uses}
 use Rattle.razor_rules.specs.Scopes.{Home}
 use Rattle.razor_rules.specs.Grounds.{Ground, in_loop, behind_local, mark_of, forbidden_at}

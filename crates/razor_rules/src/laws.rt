@@ -1,7 +1,8 @@
 // Laws of the rules. Each function does nothing: its contract is the law.
 ghost use Rattle.std.specs.Prelude.{◌≡◌, List, Option};
 ghost use Rattle.razor_ast.specs.declared.component.Component.{Component};
-ghost use Rattle.razor_rules.specs.Findings.{Broken, first_of, IsFirst};
+ghost use Rattle.razor_rules.specs.declared.finding.Broken.{Broken};
+ghost use Rattle.razor_rules.specs.Findings.{first_of, IsFirst};
 ghost use Rattle.razor_rules.specs.Programs.{Finding, BreaksFirst};
 
 /// The first of the rules that a file breaks is one of them, and none of them comes before it.

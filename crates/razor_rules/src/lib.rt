@@ -6,6 +6,8 @@
 //! first, or none, and that no other comes before that. Nothing here runs.
 #![tactic(auto)]
 
+mod finding;
 mod laws;
 
+pub use finding::Broken;
 pub use laws::{a_program_breaks_one_rule_first, no_broken_rule_comes_before_the_first};
