@@ -171,3 +171,11 @@ in_turn x (Some y) (Some z) = three x y z
 pub first_append : (xs ys : List Broken) → first_of (xs ++ ys) ≡ merged (first_of xs) (first_of ys)
 first_append [] ys = refl
 first_append (x ∷ xs) ys = ap (λ o. Some (the_first x o)) (first_append xs ys) ∙ ap Some (in_turn x (first_of xs) (first_of ys))
+
+merged_on : (one two three : Option Broken) → merged one (merged two three) ≡ merged (merged one two) three
+merged_on None two three = refl
+merged_on (Some x) two three = ap Some (in_turn x two three)
+
+-- what is found before, and in two lists one behind the other
+pub merged_append : (before : Option Broken) (xs ys : List Broken) → merged before (first_of (xs ++ ys)) ≡ merged (merged before (first_of xs)) (first_of ys)
+merged_append before xs ys = ap (merged before) (first_append xs ys) ∙ merged_on before (first_of xs) (first_of ys)

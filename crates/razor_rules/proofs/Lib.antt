@@ -1,4 +1,4 @@
 mod TemplateLaws
-mod FirstLaws
+pub mod FirstLaws
 mod FactLaws
 mod Examples

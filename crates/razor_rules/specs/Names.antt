@@ -17,4 +17,4 @@ name_at place name = record { place = place; name = name }
 -- each name that stands among these before it breaks a rule
 abbrev pub repeated : Rule → List (List ℕ) → List Ident → List Broken
 repeated rule before [] = []
-repeated rule before (one ∷ others) = broken_unless (not (is_among one.name before)) rule one.place ++ repeated rule (one.name ∷ before) others
+repeated rule before (one ∷ others) = broken_unless (not (is_among one.name before)) rule one.place ++ repeated rule (before ++ one.name ∷ []) others

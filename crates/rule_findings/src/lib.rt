@@ -5,6 +5,8 @@
 #![tactic(auto)]
 
 mod findings;
+mod names;
 
 pub use findings::Findings;
+pub use names::{Name, is_among, repeated};
 pub use razor_rules::Broken;
