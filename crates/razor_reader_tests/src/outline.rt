@@ -148,7 +148,7 @@ fn inside(alloc: Global, out: &mut String, node: &TNode) -> Result<(), Fail> {
         TNode::Child { children, .. } => list(alloc, out, children.as_slice()),
         TNode::Group { items, .. } => list(alloc, out, items.as_slice()),
         TNode::Block { items, .. } => list(alloc, out, items.as_slice()),
-        TNode::If { yes, no, .. } => branches(alloc, out, yes.get(), no),
+        TNode::If { .. } => branches(alloc, out, node),
         TNode::Switch { sections, .. } => switch(alloc, out, sections.as_slice()),
         TNode::For { body, .. } => behind(alloc, out, " ", body.get()),
         TNode::ForEach { body, .. } => behind(alloc, out, " ", body.get()),
@@ -182,14 +182,14 @@ fn otherwise(alloc: Global, out: &mut String, no: &Option<Boxed<TNode>>) -> Resu
 }
 
 #[cycle(outline)]
-fn branches(
-    alloc: Global,
-    out: &mut String,
-    yes: &TNode,
-    no: &Option<Boxed<TNode>>,
-) -> Result<(), Fail> {
-    behind(alloc, out, " ", yes)?;
-    otherwise(alloc, out, no)
+fn branches(alloc: Global, out: &mut String, node: &TNode) -> Result<(), Fail> {
+    match node {
+        TNode::If { yes, no, .. } => {
+            behind(alloc, out, " ", yes.get())?;
+            otherwise(alloc, out, no)
+        }
+        _ => Ok(()),
+    }
 }
 
 #[cycle(outline)]
