@@ -140,33 +140,44 @@ fn evaluated(rt: &impl Abort, alloc: Global, code: &Code, left: u32) -> Result<E
     Ok((fault, numbers(rt, &owners), fuel.left))
 }
 
-/// Whether the code ends so when it runs with so many units; and when it is evaluated, but that the fields are as they were.
-fn costs(
-    rt: &impl Abort,
-    alloc: Global,
-    left: u32,
-    fault: Option<Fault>,
-    fields: [i32; 2],
-    rest: u32,
-) -> Result<(), Oom> {
+/// Runs `{ n++; m--; }` with so many units.
+fn runs(rt: &impl Abort, alloc: Global, left: u32, want: End) -> Result<(), Oom> {
     let code = steps_in_block(alloc)?;
-    let ran = run(rt, alloc, &code, left)?;
-    assert!(rt; ran == (fault, fields, rest), "{left} units");
-    let seen = evaluated(rt, alloc, &code, left)?;
-    assert!(rt; seen == (fault, [0, 0], rest), "{left} units");
+    let end = run(rt, alloc, &code, left)?;
+    assert!(rt; end == want, "{left} units");
     Ok(())
 }
 
-/// `{ n++; m--; }` costs one unit for the block, and two for each statement. To evaluate it costs the same, and changes nothing.
+/// Evaluates it with so many units.
+fn evaluates(rt: &impl Abort, alloc: Global, left: u32, want: End) -> Result<(), Oom> {
+    let code = steps_in_block(alloc)?;
+    let end = evaluated(rt, alloc, &code, left)?;
+    assert!(rt; end == want, "{left} units");
+    Ok(())
+}
+
+/// One unit for the block, and two for each statement.
 #[test]
 fn statements_cost_units(rt: HostRuntime) -> Result<(), Fail> {
     let alloc = rt.alloc();
     let spent = Some(Fault::FuelSpent);
-    costs(&rt, alloc, 0, spent, [0, 0], 0)?;
-    costs(&rt, alloc, 2, spent, [0, 0], 0)?;
-    costs(&rt, alloc, 3, spent, [1, 0], 0)?;
-    costs(&rt, alloc, 4, spent, [1, 0], 0)?;
-    costs(&rt, alloc, 5, None, [1, -1], 0)?;
-    costs(&rt, alloc, 6, None, [1, -1], 1)?;
+    runs(&rt, alloc, 0, (spent, [0, 0], 0))?;
+    runs(&rt, alloc, 2, (spent, [0, 0], 0))?;
+    runs(&rt, alloc, 3, (spent, [1, 0], 0))?;
+    runs(&rt, alloc, 4, (spent, [1, 0], 0))?;
+    runs(&rt, alloc, 5, (None, [1, -1], 0))?;
+    runs(&rt, alloc, 6, (None, [1, -1], 1))?;
+    Ok(())
+}
+
+/// To evaluate costs the same, and changes nothing.
+#[test]
+fn evaluations_cost_units(rt: HostRuntime) -> Result<(), Fail> {
+    let alloc = rt.alloc();
+    let spent = Some(Fault::FuelSpent);
+    evaluates(&rt, alloc, 0, (spent, [0, 0], 0))?;
+    evaluates(&rt, alloc, 4, (spent, [0, 0], 0))?;
+    evaluates(&rt, alloc, 5, (None, [0, 0], 0))?;
+    evaluates(&rt, alloc, 6, (None, [0, 0], 1))?;
     Ok(())
 }
