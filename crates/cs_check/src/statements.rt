@@ -1,0 +1,525 @@
+// What each form of statement comes to.
+ghost use Rattle.std.specs.Prelude.{◌≡◌, map, option_map, IfOk, OnOk, take, length};
+ghost use Rattle.cs_ast.specs.declared.code.Code.TheVariants as code_by;
+ghost use Rattle.cs_rules.specs.Judged.{each, if_there};
+ghost use Rattle.cs_check.specs.Steps as steps;
+ghost use Rattle.cs_rules.specs.Statements as spec;
+ghost use Rattle.cs_rules.specs.Written as written_spec;
+ghost use Rattle.cs_rules.specs.Trees.{uses, statement as statement_of, statement_of_kind, section as section_of};
+ghost use Rattle.cs_check.specs.Agrees.{Agrees, AgreesBy};
+ghost use Rattle.cs_check.specs.Views.{scope_of, ready_view, head_view, listed_view};
+
+use crate::CheckFault;
+use crate::expressions::value;
+use crate::fault::mismatch;
+use crate::joining::{Listed, items_and_code};
+use crate::labels::{constants, decides, has_default};
+use crate::names::Names;
+use crate::types::{copy_type, fits, fitting, own_type};
+use crate::written::written;
+use cs_ast::{Code, CsType, Expr, Ident, Section, Stmt, StmtKind, TypeExpr};
+use cs_rules::{Checked, ExprType, Rule};
+use sqlite_items::{Boxed, Items};
+use std::alloc::{AllocError, Global};
+use text_core::Place;
+
+/// Ends the scopes of locals behind the first ones.
+fn cut(names: &mut Names<'_>, depth: usize)
+    ensures scope { names.new.scope ≡ names.old.scope }
+    ensures kept { names.new.locals ≡ take depth names.old.locals }
+{
+    while names.locals.len() > depth {
+        names.locals.pop();
+    }
+}
+
+/// A condition.
+#[tactic(auto, unfolding(cs_rules::specs::Statements::condition))]
+fn condition(names: &Names<'_>, a: &Expr) -> Result<Code, CheckFault>
+    ensures { Agrees result (spec.condition (uses a.now).value (scope_of names.now)) }
+{
+    let x = value(names, a)?;
+    fitting(&CsType::Bool, x)
+}
+
+fn stepped(names: &Names<'_>, a: &Expr) -> Result<Code, CheckFault>
+    ensures { Agrees result (spec.stepped (uses a.now).value (scope_of names.now)) }
+{
+    let x = value(names, a)?;
+    Ok(x.code)
+}
+
+/// A condition, where there is one.
+fn optional_condition(
+    names: &Names<'_>,
+    a: &Option<Expr>,
+) -> Result<Option<Boxed<Code>>, CheckFault>
+    ensures { Agrees result (if_there (λ x. spec.condition x (scope_of names.now)) (option_map (λ x. x.value) (option_map uses a.now))) }
+{
+    match a {
+        None => Ok(None),
+        Some(a) => {
+            let code = condition(names, a)?;
+            Ok(Some(Boxed::new(names.alloc, code)?))
+        }
+    }
+}
+
+fn optional_step(names: &Names<'_>, a: &Option<Expr>) -> Result<Option<Boxed<Code>>, CheckFault>
+    ensures { Agrees result (if_there (λ x. spec.stepped x (scope_of names.now)) (option_map (λ x. x.value) (option_map uses a.now))) }
+{
+    match a {
+        None => Ok(None),
+        Some(a) => {
+            let code = stepped(names, a)?;
+            Ok(Some(Boxed::new(names.alloc, code)?))
+        }
+    }
+}
+
+fn declared_type(
+    names: &Names<'_>,
+    cs_type: &Option<TypeExpr>,
+) -> Result<Option<CsType>, CheckFault>
+    ensures { Agrees result (if_there (written_spec.written (scope_of names.now).records) cs_type.now) }
+{
+    match cs_type {
+        None => Ok(None),
+        Some(cs_type) => {
+            let records = names.scope.records.as_slice();
+            Ok(Some(written(names.alloc, records, cs_type)?))
+        }
+    }
+}
+
+/// The initial value of a local.
+fn initial(names: &Names<'_>, name: &Ident, a: &Option<Expr>) -> Result<Checked, CheckFault>
+    ensures { Agrees result (spec.initial name.now (option_map (λ x. x.value) (option_map uses a.now)) (scope_of names.now)) }
+{
+    match a {
+        None => Err(CheckFault::Broken {
+            rule: Rule::NotAssigned,
+            place: name.place,
+        }),
+        Some(a) => value(names, a),
+    }
+}
+
+/// The type of a local: what is written, or for `var` that of the value.
+#[tactic(auto, unfolding(cs_rules::specs::Statements::local_type))]
+fn local_type(alloc: Global, declared: Option<CsType>, x: &Checked) -> Result<CsType, CheckFault>
+    ensures { Agrees result (spec.local_type declared x.now) }
+{
+    match declared {
+        None => {
+            let given = own_type(x.place, &x.expr_type)?;
+            Ok(copy_type(alloc, given)?)
+        }
+        Some(cs_type) => {
+            if fits(&x.expr_type, &cs_type) {
+                Ok(cs_type)
+            } else {
+                Err(mismatch(x.place))
+            }
+        }
+    }
+}
+
+/// A local that is ready to be declared: its type, and the code of its declaration.
+#[derive(Drop)]
+struct Ready {
+    cs_type: CsType,
+    code: Code,
+}
+
+fn typed(alloc: Global, declared: Option<CsType>, x: Checked) -> Result<Ready, CheckFault>
+    ensures { AgreesBy ready_view result (steps.typed declared x) }
+{
+    let cs_type = local_type(alloc, declared, &x)?;
+    let code = Code::Declare(Boxed::new(alloc, x.code)?);
+    Ok(Ready { cs_type, code })
+}
+
+fn prepared(
+    names: &Names<'_>,
+    cs_type: &Option<TypeExpr>,
+    name: &Ident,
+    a: &Option<Expr>,
+) -> Result<Ready, CheckFault>
+    ensures { AgreesBy ready_view result (steps.prepared cs_type.now name.now (option_map (λ x. x.value) (option_map uses a.now)) (scope_of names.now)) }
+{
+    let declared = declared_type(names, cs_type)?;
+    names.is_new(name)?;
+    let x = initial(names, name, a)?;
+    typed(names.alloc, declared, x)
+}
+
+/// A local.
+#[tactic(auto, unfolding(cs_rules::specs::Statements::local), using(crate::proofs::ScopeLemmas::kept_self))]
+fn local(
+    names: &mut Names<'_>,
+    cs_type: &Option<TypeExpr>,
+    name: &Ident,
+    a: &Option<Expr>,
+) -> Result<Code, CheckFault>
+    ensures does { AgreesBy (λ code. spec.done (scope_of names.new) code) result
+        (spec.local cs_type.now name.now (option_map (λ x. x.value) (option_map uses a.now)) (scope_of names.old)) }
+    ensures scope { names.new.scope ≡ names.old.scope }
+    ensures kept { OnOk result (take (length names.old.locals) names.new.locals ≡ names.old.locals) }
+{
+    let Ready { cs_type, code } = prepared(names, cs_type, name, a)?;
+    names.declare(&name.name, cs_type)?;
+    Ok(code)
+}
+
+#[tactic(auto, unfolding(cs_rules::specs::Statements::perform))]
+fn perform(names: &Names<'_>, a: &Expr) -> Result<Code, CheckFault>
+    ensures { AgreesBy (λ code. spec.done (scope_of names.now) code) result (spec.perform (uses a.now).value (scope_of names.now)) }
+{
+    let x = value(names, a)?;
+    Ok(Code::Perform(Boxed::new(names.alloc, x.code)?))
+}
+
+#[tactic(auto, unfolding(cs_rules::specs::Statements::return_of))]
+fn return_of(names: &Names<'_>, a: &Option<Expr>, place: Place) -> Result<Code, CheckFault>
+    ensures { AgreesBy (λ code. spec.done (scope_of names.now) code) result
+        (spec.return_of (option_map (λ x. x.value) (option_map uses a.now)) place (scope_of names.now)) }
+{
+    match a {
+        None => {
+            if !fits(&ExprType::Of(CsType::Nothing), &names.scope.result) {
+                return Err(mismatch(place));
+            }
+            Ok(Code::Return(None))
+        }
+        Some(a) => {
+            let x = value(names, a)?;
+            let code = fitting(&names.scope.result, x)?;
+            Ok(Code::Return(Some(Boxed::new(names.alloc, code)?)))
+        }
+    }
+}
+
+/// The list of a `foreach`.
+fn list_of(names: &Names<'_>, list: &Expr) -> Result<Listed, CheckFault>
+    ensures { AgreesBy listed_view result (steps.list_of (uses list.now).value (scope_of names.now)) }
+{
+    let x = value(names, list)?;
+    items_and_code(names.alloc, x)
+}
+
+/// What stands in the brackets of a `for`.
+#[derive(Drop)]
+struct Head {
+    start: Option<Boxed<Code>>,
+    test: Option<Boxed<Code>>,
+    step: Option<Boxed<Code>>,
+}
+
+fn heading(
+    names: &Names<'_>,
+    start: Option<Boxed<Code>>,
+    test: &Option<Expr>,
+    step: &Option<Expr>,
+) -> Result<Head, CheckFault>
+    ensures { AgreesBy head_view result (steps.heading start (option_map (λ x. x.value) (option_map uses test.now))
+        (option_map (λ x. x.value) (option_map uses step.now)) (scope_of names.now)) }
+{
+    let test = optional_condition(names, test)?;
+    let step = optional_step(names, step)?;
+    Ok(Head { start, test, step })
+}
+
+fn if_code(
+    alloc: Global,
+    test: Code,
+    first: Code,
+    second: Option<Boxed<Code>>,
+) -> Result<Code, AllocError>
+    ensures { IfOk result (λ code. code ≡ code_by.If test first second) }
+{
+    let test = Boxed::new(alloc, test)?;
+    let first = Boxed::new(alloc, first)?;
+    Ok(Code::If(test, first, second))
+}
+
+fn while_code(alloc: Global, test: Code, turn: Code) -> Result<Code, AllocError>
+    ensures { IfOk result (λ code. code ≡ code_by.While test turn) }
+{
+    let test = Boxed::new(alloc, test)?;
+    let turn = Boxed::new(alloc, turn)?;
+    Ok(Code::While(test, turn))
+}
+
+fn for_code(alloc: Global, head: Head, turn: Code) -> Result<Code, AllocError>
+    ensures { IfOk result (λ code. code ≡ code_by.For head.start head.test head.step turn) }
+{
+    let turn = Boxed::new(alloc, turn)?;
+    Ok(Code::For(head.start, head.test, head.step, turn))
+}
+
+fn for_each_code(alloc: Global, list: Code, turn: Code) -> Result<Code, AllocError>
+    ensures { IfOk result (λ code. code ≡ code_by.ForEach list turn) }
+{
+    let list = Boxed::new(alloc, list)?;
+    let turn = Boxed::new(alloc, turn)?;
+    Ok(Code::ForEach(list, turn))
+}
+
+/// What a statement comes to.
+#[cycle(statements)]
+fn statement(names: &mut Names<'_>, one: &Stmt) -> Result<Code, CheckFault>
+    ensures does { AgreesBy (λ code. spec.done (scope_of names.new) code) result (statement_of one.now (scope_of names.old)) }
+    ensures scope { names.new.scope ≡ names.old.scope }
+    ensures kept { OnOk result (take (length names.old.locals) names.new.locals ≡ names.old.locals) }
+{
+    form(names, one.place, &one.kind)
+}
+
+/// The same by its form.
+#[cycle(statements)]
+#[tactic(auto, using(crate::proofs::ScopeLemmas::kept_self))]
+fn form(names: &mut Names<'_>, place: Place, kind: &StmtKind) -> Result<Code, CheckFault>
+    ensures does { AgreesBy (λ code. spec.done (scope_of names.new) code) result (statement_of_kind kind.now place (scope_of names.old)) }
+    ensures scope { names.new.scope ≡ names.old.scope }
+    ensures kept { OnOk result (take (length names.old.locals) names.new.locals ≡ names.old.locals) }
+{
+    match kind {
+        StmtKind::Local {
+            cs_type,
+            name,
+            value,
+        } => local(names, cs_type, name, value),
+        StmtKind::Empty => Ok(Code::Empty),
+        StmtKind::Block(body) => block(names, body.as_slice()),
+        StmtKind::If { condition, yes, no } => if_else(names, condition, yes.get(), no),
+        StmtKind::While { condition, body } => while_loop(names, body.get(), condition),
+        StmtKind::For {
+            start,
+            condition,
+            step,
+            body,
+        } => for_loop(names, start, condition, step, body.get()),
+        StmtKind::ForEach { name, list, body } => for_each(names, name, body.get(), list),
+        StmtKind::Switch { value, sections } => switch(names, sections.as_slice(), value),
+        StmtKind::Break => Ok(Code::Break),
+        StmtKind::Continue => Ok(Code::Continue),
+        StmtKind::Return(a) => return_of(names, a, place),
+        StmtKind::Expr(a) => perform(names, a),
+        StmtKind::Await(a) => perform(names, a),
+    }
+}
+
+/// Statements, in order.
+#[cycle(statements)]
+#[tactic(auto, using(crate::proofs::FrontLemmas::front_none, crate::proofs::FrontLemmas::front_more, crate::proofs::FrontLemmas::front_end, crate::proofs::ScopeLemmas::kept_self, crate::proofs::ScopeLemmas::kept_on))]
+pub fn in_order(names: &mut Names<'_>, body: &[Stmt]) -> Result<Items<Code>, CheckFault>
+    ensures does { Agrees result (spec.in_order (map statement_of body.now) (scope_of names.old)) }
+    ensures scope { names.new.scope ≡ names.old.scope }
+    ensures kept { OnOk result (take (length names.old.locals) names.new.locals ≡ names.old.locals) }
+{
+    let mut codes = Items::new(names.alloc);
+    for one in body {
+        codes.push(statement(names, one)?)?;
+    }
+    Ok(codes)
+}
+
+/// The same in a scope of their own.
+#[cycle(statements)]
+fn enclosed(names: &mut Names<'_>, body: &[Stmt]) -> Result<Items<Code>, CheckFault>
+    ensures does { Agrees result (spec.in_order (map statement_of body.now) (scope_of names.old)) }
+    ensures scope { names.new.scope ≡ names.old.scope }
+    ensures same { OnOk result (names.new.locals ≡ names.old.locals) }
+{
+    let depth = names.locals.len();
+    let codes = in_order(names, body)?;
+    cut(names, depth);
+    Ok(codes)
+}
+
+/// A statement in a scope of its own.
+#[cycle(statements)]
+fn alone(names: &mut Names<'_>, one: &Stmt) -> Result<Code, CheckFault>
+    ensures does { Agrees result (spec.alone (statement_of one.now) (scope_of names.old)) }
+    ensures scope { names.new.scope ≡ names.old.scope }
+    ensures same { OnOk result (names.new.locals ≡ names.old.locals) }
+{
+    let depth = names.locals.len();
+    let code = statement(names, one)?;
+    cut(names, depth);
+    Ok(code)
+}
+
+#[cycle(statements)]
+fn optional_alone(
+    names: &mut Names<'_>,
+    one: &Option<Boxed<Stmt>>,
+) -> Result<Option<Boxed<Code>>, CheckFault>
+    ensures does { Agrees result (if_there (λ x. spec.alone x (scope_of names.old)) (option_map statement_of one.now)) }
+    ensures scope { names.new.scope ≡ names.old.scope }
+    ensures same { OnOk result (names.new.locals ≡ names.old.locals) }
+{
+    match one {
+        None => Ok(None),
+        Some(one) => {
+            let code = alone(names, one.get())?;
+            Ok(Some(Boxed::new(names.alloc, code)?))
+        }
+    }
+}
+
+#[cycle(statements)]
+#[tactic(auto, unfolding(cs_rules::specs::Statements::block), using(crate::proofs::ScopeLemmas::kept_self))]
+fn block(names: &mut Names<'_>, body: &[Stmt]) -> Result<Code, CheckFault>
+    ensures does { AgreesBy (λ code. spec.done (scope_of names.new) code) result (spec.block (map statement_of body.now) (scope_of names.old)) }
+    ensures scope { names.new.scope ≡ names.old.scope }
+    ensures kept { OnOk result (take (length names.old.locals) names.new.locals ≡ names.old.locals) }
+{
+    let codes = enclosed(names, body)?;
+    Ok(Code::Block(codes))
+}
+
+#[cycle(statements)]
+#[tactic(auto, unfolding(cs_rules::specs::Statements::if_else), using(crate::proofs::ScopeLemmas::kept_self))]
+fn if_else(
+    names: &mut Names<'_>,
+    test: &Expr,
+    yes: &Stmt,
+    no: &Option<Boxed<Stmt>>,
+) -> Result<Code, CheckFault>
+    ensures does { AgreesBy (λ code. spec.done (scope_of names.new) code) result
+        (spec.if_else (uses test.now).value (statement_of yes.now) (option_map statement_of no.now) (scope_of names.old)) }
+    ensures scope { names.new.scope ≡ names.old.scope }
+    ensures kept { OnOk result (take (length names.old.locals) names.new.locals ≡ names.old.locals) }
+{
+    let code = condition(names, test)?;
+    let first = alone(names, yes)?;
+    let second = optional_alone(names, no)?;
+    Ok(if_code(names.alloc, code, first, second)?)
+}
+
+#[cycle(statements)]
+#[tactic(auto, unfolding(cs_rules::specs::Statements::while_loop), using(crate::proofs::ScopeLemmas::kept_self))]
+fn while_loop(names: &mut Names<'_>, body: &Stmt, test: &Expr) -> Result<Code, CheckFault>
+    ensures does { AgreesBy (λ code. spec.done (scope_of names.new) code) result
+        (spec.while_loop (uses test.now).value (statement_of body.now) (scope_of names.old)) }
+    ensures scope { names.new.scope ≡ names.old.scope }
+    ensures kept { OnOk result (take (length names.old.locals) names.new.locals ≡ names.old.locals) }
+{
+    let code = condition(names, test)?;
+    let turn = alone(names, body)?;
+    Ok(while_code(names.alloc, code, turn)?)
+}
+
+/// The start of a `for`.
+#[cycle(statements)]
+fn started(
+    names: &mut Names<'_>,
+    start: &Option<Boxed<Stmt>>,
+) -> Result<Option<Boxed<Code>>, CheckFault>
+    ensures does { AgreesBy (λ code. (code, scope_of names.new)) result (spec.started (option_map statement_of start.now) (scope_of names.old)) }
+    ensures scope { names.new.scope ≡ names.old.scope }
+    ensures kept { OnOk result (take (length names.old.locals) names.new.locals ≡ names.old.locals) }
+{
+    match start {
+        None => Ok(None),
+        Some(start) => {
+            let code = statement(names, start.get())?;
+            Ok(Some(Boxed::new(names.alloc, code)?))
+        }
+    }
+}
+
+#[cycle(statements)]
+#[tactic(auto, unfolding(cs_rules::specs::Statements::for_loop), using(crate::proofs::ScopeLemmas::kept_self))]
+fn for_loop(
+    names: &mut Names<'_>,
+    start: &Option<Boxed<Stmt>>,
+    test: &Option<Expr>,
+    step: &Option<Expr>,
+    body: &Stmt,
+) -> Result<Code, CheckFault>
+    ensures does { AgreesBy (λ code. spec.done (scope_of names.new) code) result
+        (spec.for_loop (option_map statement_of start.now) (option_map (λ x. x.value) (option_map uses test.now))
+        (option_map (λ x. x.value) (option_map uses step.now)) (statement_of body.now) (scope_of names.old)) }
+    ensures scope { names.new.scope ≡ names.old.scope }
+    ensures kept { OnOk result (take (length names.old.locals) names.new.locals ≡ names.old.locals) }
+{
+    let depth = names.locals.len();
+    let first = started(names, start)?;
+    let head = heading(names, first, test, step)?;
+    let turn = alone(names, body)?;
+    cut(names, depth);
+    Ok(for_code(names.alloc, head, turn)?)
+}
+
+#[cycle(statements)]
+#[tactic(auto, unfolding(cs_rules::specs::Statements::for_each), using(crate::proofs::ScopeLemmas::kept_self))]
+fn for_each(
+    names: &mut Names<'_>,
+    name: &Ident,
+    body: &Stmt,
+    list: &Expr,
+) -> Result<Code, CheckFault>
+    ensures does { AgreesBy (λ code. spec.done (scope_of names.new) code) result
+        (spec.for_each name.now (uses list.now).value (statement_of body.now) (scope_of names.old)) }
+    ensures scope { names.new.scope ≡ names.old.scope }
+    ensures kept { OnOk result (take (length names.old.locals) names.new.locals ≡ names.old.locals) }
+{
+    names.is_new(name)?;
+    let Listed { item, code } = list_of(names, list)?;
+    let depth = names.locals.len();
+    names.declare(&name.name, item)?;
+    let turn = alone(names, body)?;
+    cut(names, depth);
+    Ok(for_each_code(names.alloc, code, turn)?)
+}
+
+/// A section of a `switch` that decides by a type.
+#[cycle(statements)]
+#[tactic(auto, unfolding(cs_rules::specs::Statements::section), using(cs_rules::proofs::Laws::section_law))]
+fn section(names: &mut Names<'_>, decided: &ExprType, it: &Section) -> Result<Code, CheckFault>
+    ensures does { Agrees result (section_of it.now decided.now (scope_of names.old)) }
+    ensures scope { names.new.scope ≡ names.old.scope }
+    ensures same { OnOk result (names.new.locals ≡ names.old.locals) }
+{
+    let labels = it.labels.as_slice();
+    let constants = constants(names.alloc, decided, labels)?;
+    let codes = enclosed(names, it.body.as_slice())?;
+    Ok(Code::Section(constants, has_default(labels), codes))
+}
+
+#[cycle(statements)]
+#[tactic(auto, using(crate::proofs::FrontLemmas::front_none, crate::proofs::FrontLemmas::front_more, crate::proofs::FrontLemmas::front_end))]
+fn sections(
+    names: &mut Names<'_>,
+    decided: &ExprType,
+    all: &[Section],
+) -> Result<Items<Code>, CheckFault>
+    ensures does { Agrees result (each (λ one. one decided.now (scope_of names.old)) (map section_of all.now)) }
+    ensures scope { names.new.scope ≡ names.old.scope }
+    ensures same { OnOk result (names.new.locals ≡ names.old.locals) }
+{
+    let mut codes = Items::new(names.alloc);
+    for it in all {
+        codes.push(section(names, decided, it)?)?;
+    }
+    Ok(codes)
+}
+
+#[cycle(statements)]
+#[tactic(auto, unfolding(cs_rules::specs::Statements::switch_of), using(crate::proofs::ScopeLemmas::kept_self))]
+fn switch(names: &mut Names<'_>, all: &[Section], a: &Expr) -> Result<Code, CheckFault>
+    ensures does { AgreesBy (λ code. spec.done (scope_of names.new) code) result
+        (spec.switch_of (uses a.now).value (map section_of all.now) (scope_of names.old)) }
+    ensures scope { names.new.scope ≡ names.old.scope }
+    ensures kept { OnOk result (take (length names.old.locals) names.new.locals ≡ names.old.locals) }
+{
+    let x = value(names, a)?;
+    if !decides(&x.expr_type) {
+        return Err(mismatch(x.place));
+    }
+    let codes = sections(names, &x.expr_type, all)?;
+    Ok(Code::Switch(Boxed::new(names.alloc, x.code)?, codes))
+}
