@@ -8,8 +8,8 @@ use Rattle.cs_check.specs.declared.arguments.Replaced.{Replaced}
 use Rattle.cs_ast.specs.declared.cs_type.CsType.{CsType}
 use Rattle.cs_ast.specs.declared.code.Code.{Code}
 use Rattle.cs_check.specs.declared.joining.Listed.{Listed}
-use Rattle.cs_check.specs.declared.statements.Head.{Head}
-use Rattle.cs_check.specs.declared.statements.Ready.{Ready}
+use Rattle.cs_check.specs.declared.heads.Head.{Head}
+use Rattle.cs_check.specs.declared.locals.Ready.{Ready}
 use Rattle.cs_check.specs.declared.written.Declared.{Declared}
 use Rattle.cs_check.specs.declared.names.Names.{Names}
 

@@ -14,7 +14,8 @@ ghost use Rattle.cs_check.specs.Views.{declared, scope_of};
 
 use crate::CheckFault;
 use crate::fault::mismatch;
-use crate::library::{Part, behind, callee_of_value, part_named, static_value};
+use crate::library::{callee_of_value, static_value};
+use crate::members::{Part, behind, part_named};
 use crate::names::{Names, value_of_name, variable_of};
 use crate::operators::{binary_type, either_type, is_value};
 use crate::types::{checked, copy_type, copy_types, fitting, own_type, wants};

@@ -8,12 +8,16 @@
 mod arguments;
 mod expressions;
 mod fault;
+mod heads;
 mod joining;
 mod labels;
 mod leaves;
 mod library;
+mod locals;
+mod members;
 mod names;
 mod operators;
+mod statement_codes;
 mod statements;
 mod types;
 mod whole;

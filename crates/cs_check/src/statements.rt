@@ -1,26 +1,24 @@
 // What each form of statement comes to.
-ghost use Rattle.std.specs.Prelude.{◌≡◌, map, option_map, IfOk, OnOk, take, length};
-ghost use Rattle.cs_ast.specs.declared.code.Code.TheVariants as code_by;
+ghost use Rattle.std.specs.Prelude.{◌≡◌, map, option_map, OnOk, take, length};
 ghost use Rattle.cs_rules.specs.Judged.{each, if_there};
-ghost use Rattle.cs_check.specs.Steps as steps;
 ghost use Rattle.cs_rules.specs.Statements as spec;
-ghost use Rattle.cs_rules.specs.Written as written_spec;
 ghost use Rattle.cs_rules.specs.Trees.{uses, statement as statement_of, statement_of_kind, section as section_of};
 ghost use Rattle.cs_check.specs.Agrees.{Agrees, AgreesBy};
-ghost use Rattle.cs_check.specs.Views.{scope_of, ready_view, head_view, listed_view};
+ghost use Rattle.cs_check.specs.Views.{scope_of};
 
 use crate::CheckFault;
 use crate::expressions::value;
 use crate::fault::mismatch;
-use crate::joining::{Listed, items_and_code};
+use crate::heads::{condition, heading, list_of};
+use crate::joining::Listed;
 use crate::labels::{constants, decides, has_default};
+use crate::locals::local;
 use crate::names::Names;
-use crate::types::{copy_type, fits, fitting, own_type};
-use crate::written::written;
-use cs_ast::{Code, CsType, Expr, Ident, Section, Stmt, StmtKind, TypeExpr};
-use cs_rules::{Checked, ExprType, Rule};
+use crate::statement_codes::{for_code, for_each_code, if_code, while_code};
+use crate::types::{fits, fitting};
+use cs_ast::{Code, CsType, Expr, Ident, Section, Stmt, StmtKind};
+use cs_rules::ExprType;
 use sqlite_items::{Boxed, Items};
-use std::alloc::{AllocError, Global};
 use text_core::Place;
 
 /// Ends the scopes of locals behind the first ones.
@@ -31,145 +29,6 @@ fn cut(names: &mut Names<'_>, depth: usize)
     while names.locals.len() > depth {
         names.locals.pop();
     }
-}
-
-/// A condition.
-#[tactic(auto, unfolding(cs_rules::specs::Statements::condition))]
-fn condition(names: &Names<'_>, a: &Expr) -> Result<Code, CheckFault>
-    ensures { Agrees result (spec.condition (uses a.now).value (scope_of names.now)) }
-{
-    let x = value(names, a)?;
-    fitting(&CsType::Bool, x)
-}
-
-fn stepped(names: &Names<'_>, a: &Expr) -> Result<Code, CheckFault>
-    ensures { Agrees result (spec.stepped (uses a.now).value (scope_of names.now)) }
-{
-    let x = value(names, a)?;
-    Ok(x.code)
-}
-
-/// A condition, where there is one.
-fn optional_condition(
-    names: &Names<'_>,
-    a: &Option<Expr>,
-) -> Result<Option<Boxed<Code>>, CheckFault>
-    ensures { Agrees result (if_there (λ x. spec.condition x (scope_of names.now)) (option_map (λ x. x.value) (option_map uses a.now))) }
-{
-    match a {
-        None => Ok(None),
-        Some(a) => {
-            let code = condition(names, a)?;
-            Ok(Some(Boxed::new(names.alloc, code)?))
-        }
-    }
-}
-
-fn optional_step(names: &Names<'_>, a: &Option<Expr>) -> Result<Option<Boxed<Code>>, CheckFault>
-    ensures { Agrees result (if_there (λ x. spec.stepped x (scope_of names.now)) (option_map (λ x. x.value) (option_map uses a.now))) }
-{
-    match a {
-        None => Ok(None),
-        Some(a) => {
-            let code = stepped(names, a)?;
-            Ok(Some(Boxed::new(names.alloc, code)?))
-        }
-    }
-}
-
-fn declared_type(
-    names: &Names<'_>,
-    cs_type: &Option<TypeExpr>,
-) -> Result<Option<CsType>, CheckFault>
-    ensures { Agrees result (if_there (written_spec.written (scope_of names.now).records) cs_type.now) }
-{
-    match cs_type {
-        None => Ok(None),
-        Some(cs_type) => {
-            let records = names.scope.records.as_slice();
-            Ok(Some(written(names.alloc, records, cs_type)?))
-        }
-    }
-}
-
-/// The initial value of a local.
-fn initial(names: &Names<'_>, name: &Ident, a: &Option<Expr>) -> Result<Checked, CheckFault>
-    ensures { Agrees result (spec.initial name.now (option_map (λ x. x.value) (option_map uses a.now)) (scope_of names.now)) }
-{
-    match a {
-        None => Err(CheckFault::Broken {
-            rule: Rule::NotAssigned,
-            place: name.place,
-        }),
-        Some(a) => value(names, a),
-    }
-}
-
-/// The type of a local: what is written, or for `var` that of the value.
-#[tactic(auto, unfolding(cs_rules::specs::Statements::local_type))]
-fn local_type(alloc: Global, declared: Option<CsType>, x: &Checked) -> Result<CsType, CheckFault>
-    ensures { Agrees result (spec.local_type declared x.now) }
-{
-    match declared {
-        None => {
-            let given = own_type(x.place, &x.expr_type)?;
-            Ok(copy_type(alloc, given)?)
-        }
-        Some(cs_type) => {
-            if fits(&x.expr_type, &cs_type) {
-                Ok(cs_type)
-            } else {
-                Err(mismatch(x.place))
-            }
-        }
-    }
-}
-
-/// A local that is ready to be declared: its type, and the code of its declaration.
-#[derive(Drop)]
-struct Ready {
-    cs_type: CsType,
-    code: Code,
-}
-
-fn typed(alloc: Global, declared: Option<CsType>, x: Checked) -> Result<Ready, CheckFault>
-    ensures { AgreesBy ready_view result (steps.typed declared x) }
-{
-    let cs_type = local_type(alloc, declared, &x)?;
-    let code = Code::Declare(Boxed::new(alloc, x.code)?);
-    Ok(Ready { cs_type, code })
-}
-
-fn prepared(
-    names: &Names<'_>,
-    cs_type: &Option<TypeExpr>,
-    name: &Ident,
-    a: &Option<Expr>,
-) -> Result<Ready, CheckFault>
-    ensures { AgreesBy ready_view result (steps.prepared cs_type.now name.now (option_map (λ x. x.value) (option_map uses a.now)) (scope_of names.now)) }
-{
-    let declared = declared_type(names, cs_type)?;
-    names.is_new(name)?;
-    let x = initial(names, name, a)?;
-    typed(names.alloc, declared, x)
-}
-
-/// A local.
-#[tactic(auto, unfolding(cs_rules::specs::Statements::local), using(crate::proofs::ScopeLemmas::kept_self))]
-fn local(
-    names: &mut Names<'_>,
-    cs_type: &Option<TypeExpr>,
-    name: &Ident,
-    a: &Option<Expr>,
-) -> Result<Code, CheckFault>
-    ensures does { AgreesBy (λ code. spec.done (scope_of names.new) code) result
-        (spec.local cs_type.now name.now (option_map (λ x. x.value) (option_map uses a.now)) (scope_of names.old)) }
-    ensures scope { names.new.scope ≡ names.old.scope }
-    ensures kept { OnOk result (take (length names.old.locals) names.new.locals ≡ names.old.locals) }
-{
-    let Ready { cs_type, code } = prepared(names, cs_type, name, a)?;
-    names.declare(&name.name, cs_type)?;
-    Ok(code)
 }
 
 #[tactic(auto, unfolding(cs_rules::specs::Statements::perform))]
@@ -198,72 +57,6 @@ fn return_of(names: &Names<'_>, a: &Option<Expr>, place: Place) -> Result<Code, 
             Ok(Code::Return(Some(Boxed::new(names.alloc, code)?)))
         }
     }
-}
-
-/// The list of a `foreach`.
-fn list_of(names: &Names<'_>, list: &Expr) -> Result<Listed, CheckFault>
-    ensures { AgreesBy listed_view result (steps.list_of (uses list.now).value (scope_of names.now)) }
-{
-    let x = value(names, list)?;
-    items_and_code(names.alloc, x)
-}
-
-/// What stands in the brackets of a `for`.
-#[derive(Drop)]
-struct Head {
-    start: Option<Boxed<Code>>,
-    test: Option<Boxed<Code>>,
-    step: Option<Boxed<Code>>,
-}
-
-fn heading(
-    names: &Names<'_>,
-    start: Option<Boxed<Code>>,
-    test: &Option<Expr>,
-    step: &Option<Expr>,
-) -> Result<Head, CheckFault>
-    ensures { AgreesBy head_view result (steps.heading start (option_map (λ x. x.value) (option_map uses test.now))
-        (option_map (λ x. x.value) (option_map uses step.now)) (scope_of names.now)) }
-{
-    let test = optional_condition(names, test)?;
-    let step = optional_step(names, step)?;
-    Ok(Head { start, test, step })
-}
-
-fn if_code(
-    alloc: Global,
-    test: Code,
-    first: Code,
-    second: Option<Boxed<Code>>,
-) -> Result<Code, AllocError>
-    ensures { IfOk result (λ code. code ≡ code_by.If test first second) }
-{
-    let test = Boxed::new(alloc, test)?;
-    let first = Boxed::new(alloc, first)?;
-    Ok(Code::If(test, first, second))
-}
-
-fn while_code(alloc: Global, test: Code, turn: Code) -> Result<Code, AllocError>
-    ensures { IfOk result (λ code. code ≡ code_by.While test turn) }
-{
-    let test = Boxed::new(alloc, test)?;
-    let turn = Boxed::new(alloc, turn)?;
-    Ok(Code::While(test, turn))
-}
-
-fn for_code(alloc: Global, head: Head, turn: Code) -> Result<Code, AllocError>
-    ensures { IfOk result (λ code. code ≡ code_by.For head.start head.test head.step turn) }
-{
-    let turn = Boxed::new(alloc, turn)?;
-    Ok(Code::For(head.start, head.test, head.step, turn))
-}
-
-fn for_each_code(alloc: Global, list: Code, turn: Code) -> Result<Code, AllocError>
-    ensures { IfOk result (λ code. code ≡ code_by.ForEach list turn) }
-{
-    let list = Boxed::new(alloc, list)?;
-    let turn = Boxed::new(alloc, turn)?;
-    Ok(Code::ForEach(list, turn))
 }
 
 /// What a statement comes to.

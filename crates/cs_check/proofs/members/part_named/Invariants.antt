@@ -1,6 +1,6 @@
 use Rattle.std.proofs.Common.{◌≡◌, drop}
 use Rattle.cs_rules.specs.Library.{part_from}
-use Rattle.cs_check.proofs.library.part_named.Given as goal
+use Rattle.cs_check.proofs.members.part_named.Given as goal
 
 -- none of the parts so far has the name
 abbrev pub invariant-loop-number : goal.invariant-loop-number

@@ -1,0 +1,90 @@
+// What stands in the brackets of statements.
+ghost use Rattle.std.specs.Prelude.{option_map};
+ghost use Rattle.cs_rules.specs.Judged.{if_there};
+ghost use Rattle.cs_rules.specs.Statements as spec;
+ghost use Rattle.cs_rules.specs.Trees.{uses};
+ghost use Rattle.cs_check.specs.Agrees.{Agrees, AgreesBy};
+ghost use Rattle.cs_check.specs.Steps as steps;
+ghost use Rattle.cs_check.specs.Views.{scope_of, head_view, listed_view};
+
+use crate::CheckFault;
+use crate::expressions::value;
+use crate::joining::{Listed, items_and_code};
+use crate::names::Names;
+use crate::types::fitting;
+use cs_ast::{Code, CsType, Expr};
+use sqlite_items::Boxed;
+
+/// A condition.
+#[tactic(auto, unfolding(cs_rules::specs::Statements::condition))]
+pub fn condition(names: &Names<'_>, a: &Expr) -> Result<Code, CheckFault>
+    ensures { Agrees result (spec.condition (uses a.now).value (scope_of names.now)) }
+{
+    let x = value(names, a)?;
+    fitting(&CsType::Bool, x)
+}
+
+fn stepped(names: &Names<'_>, a: &Expr) -> Result<Code, CheckFault>
+    ensures { Agrees result (spec.stepped (uses a.now).value (scope_of names.now)) }
+{
+    let x = value(names, a)?;
+    Ok(x.code)
+}
+
+/// A condition, where there is one.
+fn optional_condition(
+    names: &Names<'_>,
+    a: &Option<Expr>,
+) -> Result<Option<Boxed<Code>>, CheckFault>
+    ensures { Agrees result (if_there (λ x. spec.condition x (scope_of names.now)) (option_map (λ x. x.value) (option_map uses a.now))) }
+{
+    match a {
+        None => Ok(None),
+        Some(a) => {
+            let code = condition(names, a)?;
+            Ok(Some(Boxed::new(names.alloc, code)?))
+        }
+    }
+}
+
+fn optional_step(names: &Names<'_>, a: &Option<Expr>) -> Result<Option<Boxed<Code>>, CheckFault>
+    ensures { Agrees result (if_there (λ x. spec.stepped x (scope_of names.now)) (option_map (λ x. x.value) (option_map uses a.now))) }
+{
+    match a {
+        None => Ok(None),
+        Some(a) => {
+            let code = stepped(names, a)?;
+            Ok(Some(Boxed::new(names.alloc, code)?))
+        }
+    }
+}
+
+/// The list of a `foreach`.
+pub fn list_of(names: &Names<'_>, list: &Expr) -> Result<Listed, CheckFault>
+    ensures { AgreesBy listed_view result (steps.list_of (uses list.now).value (scope_of names.now)) }
+{
+    let x = value(names, list)?;
+    items_and_code(names.alloc, x)
+}
+
+/// What stands in the brackets of a `for`.
+#[derive(Drop)]
+pub struct Head {
+    pub start: Option<Boxed<Code>>,
+    pub test: Option<Boxed<Code>>,
+    pub step: Option<Boxed<Code>>,
+}
+
+pub fn heading(
+    names: &Names<'_>,
+    start: Option<Boxed<Code>>,
+    test: &Option<Expr>,
+    step: &Option<Expr>,
+) -> Result<Head, CheckFault>
+    ensures { AgreesBy head_view result (steps.heading start (option_map (λ x. x.value) (option_map uses test.now))
+        (option_map (λ x. x.value) (option_map uses step.now)) (scope_of names.now)) }
+{
+    let test = optional_condition(names, test)?;
+    let step = optional_step(names, step)?;
+    Ok(Head { start, test, step })
+}
