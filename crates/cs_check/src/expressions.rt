@@ -1,5 +1,5 @@
 // What each form of expression comes to.
-ghost use Rattle.std.specs.Prelude.{◌≡◌, map};
+ghost use Rattle.std.specs.Prelude.{◌≡◌, map, Some};
 ghost use Rattle.cs_rules.specs.Judged.{each};
 ghost use Rattle.cs_rules.specs.Expressions as spec;
 ghost use Rattle.cs_rules.specs.Trees.{value_in, callee_in, uses, uses_of_kind, piece as piece_of, given as given_of};
@@ -340,6 +340,21 @@ fn of_no_record(names: &Names<'_>, parts: &[WithPart], wrong: Place) -> Result<C
     Err(mismatch(wrong))
 }
 
+/// A record with new values of parts.
+#[cycle(expressions)]
+fn with_record(
+    names: &Names<'_>,
+    parts: &[WithPart],
+    x: Checked,
+    found: Declared<'_>,
+    place: Place,
+) -> Result<Checked, CheckFault>
+    ensures { Agrees result (spec.with_parts (Some (declared found.entry)) (map given_of parts.now) x place (scope_of names.now)) }
+{
+    let replaced = replacements(names, parts, found)?;
+    with_replaced(names.alloc, x, replaced, place)
+}
+
 #[cycle(expressions)]
 #[tactic(auto, unfolding(cs_rules::specs::Expressions::with_of))]
 fn with_of(
@@ -353,10 +368,7 @@ fn with_of(
     let x = value(names, a)?;
     match record_of(names.scope.records.as_slice(), &x.expr_type) {
         None => of_no_record(names, parts, x.place),
-        Some(found) => {
-            let replaced = replacements(names, parts, found)?;
-            with_replaced(names.alloc, x, replaced, place)
-        }
+        Some(found) => with_record(names, parts, x, found, place),
     }
 }
 

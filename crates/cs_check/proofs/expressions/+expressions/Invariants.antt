@@ -81,6 +81,9 @@ decreases-replacements l = 8 * goal.size-replacements l + 4
 abbrev pub decreases-of_no_record : goal.decreases-of_no_record
 decreases-of_no_record l = 8 * goal.size-of_no_record l + 4
 
+abbrev pub decreases-with_record : goal.decreases-with_record
+decreases-with_record l = 8 * goal.size-with_record l + 5
+
 abbrev pub decreases-assign : goal.decreases-assign
 decreases-assign l = 8 * goal.size-assign l + 6
 
