@@ -1,8 +1,7 @@
 -- Scopes that grow and are restored.
-use Rattle.std.proofs.Common.{◌≡◌, ℕ, List, [], ◌++◌, length, take, drop, map, refl, sym, ap, ◌∙◌, append_assoc}
-use Rattle.std.proofs.lemmas.List.{append-nil, take-append-drop}
+use Rattle.std.proofs.Common.{◌≡◌, List, ◌++◌, length, take, drop, sym, ap, ◌∙◌, append_assoc}
+use Rattle.std.proofs.lemmas.List.{take-append-drop}
 use Rattle.std.proofs.Math.Seq.{take-append_seam, take-length}
-use Rattle.cs_ast.specs.declared.scope.Scope.{Scope}
 use Rattle.cs_ast.specs.declared.scope.Named.{Named}
 
 pub kept_self : (a : List Named) → take (length a) a ≡ a
@@ -17,6 +16,3 @@ kept_on a b d first second =
     let e : a ++ (drop (length a) b ++ drop (length b) d) ≡ d =
     sym (append_assoc a (drop (length a) b) (drop (length b) d)) ∙ ap (λ z. z ++ drop (length b) d) (joined a b first) ∙ joined b d second in
     ap (take (length a)) (sym e) ∙ take-append_seam a (drop (length a) b ++ drop (length b) d)
-
-pub no_locals : (s : Scope) → record s { names = s.names ++ [] } ≡ s
-no_locals s = ap (λ (names : List Named). record s { names = names }) (append-nil s.names)

@@ -1,3 +1,2 @@
-pub mod Agrees
 pub mod Views
 pub mod Steps

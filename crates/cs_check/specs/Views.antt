@@ -1,40 +1,13 @@
 -- What the checker's own values stand for in the definitions of the rules.
-use Rattle.std.specs.Prelude.{List, ◌++◌, Option}
-use Rattle.cs_ast.specs.declared.scope.Scope.{Scope}
-use Rattle.cs_rules.specs.Written as written
-use Rattle.cs_rules.specs.Expressions as expressions
-use Rattle.cs_check.specs.declared.arguments.Replacing.{Replacing}
-use Rattle.cs_check.specs.declared.arguments.Replaced.{Replaced}
-use Rattle.cs_ast.specs.declared.cs_type.CsType.{CsType}
+use Rattle.std.specs.Prelude.{Option}
 use Rattle.cs_ast.specs.declared.code.Code.{Code}
-use Rattle.cs_check.specs.declared.joining.Listed.{Listed}
+use Rattle.cs_ast.specs.declared.cs_type.CsType.{CsType}
 use Rattle.cs_check.specs.declared.heads.Head.{Head}
 use Rattle.cs_check.specs.declared.locals.Ready.{Ready}
-use Rattle.cs_check.specs.declared.written.Declared.{Declared}
-use Rattle.cs_check.specs.declared.names.Names.{Names}
-
--- a record that was looked up
-abbrev pub declared : Declared → written.Declared
-declared found = record { number = found.number; parts = found.parts.now }
-
--- the scope that code is checked in: the one that was given, and the locals declared in it
-abbrev pub scope_of : Names → Scope
-scope_of names = record { names = names.scope.now.names ++ names.locals; records = names.scope.now.records; result = names.scope.now.result }
-
--- a new value of a part, and several
-abbrev pub replacing_view : Replacing → expressions.Replacing
-replacing_view one = record { number = one.number; wanted = one.wanted; value = one.value }
-
-abbrev pub replaced_view : Replaced → expressions.Replaced
-replaced_view all = record { positions = all.positions; wanted = all.wanted; values = all.values.items }
 
 -- the type of a local and the code of its declaration
 abbrev pub ready_view : Ready → CsType × Code
 ready_view ready = (ready.cs_type, ready.code)
-
--- the type of the items of a list and its code
-abbrev pub listed_view : Listed → CsType × Code
-listed_view list = (list.item, list.code)
 
 -- what stands in the brackets of a `for`
 abbrev pub head_view : Head → Option Code × Option Code × Option Code

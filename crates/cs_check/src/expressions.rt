@@ -3,28 +3,28 @@ ghost use Rattle.std.specs.Prelude.{◌≡◌, map, Some};
 ghost use Rattle.cs_rules.specs.Judged.{each};
 ghost use Rattle.cs_rules.specs.Expressions as spec;
 ghost use Rattle.cs_rules.specs.Trees.{value_in, callee_in, uses, uses_of_kind, piece as piece_of, given as given_of};
-ghost use Rattle.cs_check.specs.Agrees.{Agrees, AgreesBy};
+ghost use Rattle.cs_forms.specs.Agrees.{Agrees, AgreesBy};
 ghost use Rattle.cs_check.specs.Steps as steps;
-ghost use Rattle.cs_check.specs.Views.{scope_of, declared, replacing_view, replaced_view};
+ghost use Rattle.cs_forms.specs.Views.{scope_of, declared, replacing_view, replaced_view};
 
-use crate::CheckFault;
-use crate::arguments::{Replaced, Replacing, with_replaced};
-use crate::fault::mismatch;
-use crate::joining::{called, chosen, constructed, indexed, joined};
-use crate::leaves::{
-    assigned, dotted, empty_list, known_part, known_record, name_called, name_read, null,
-    record_of, static_member, step,
-};
-use crate::library::{
-    callee_of_member, callee_of_value, null_member, static_callee, value_of_member,
-};
-use crate::names::{Names, variable_of};
-use crate::operators::{cast_type, operator_of, shown, unary_type};
-use crate::types::{checked, fitting};
-use crate::written::Declared;
 use cs_ast::{
     AssignOp, BinaryOp, CastOp, Code, CsType, Expr, ExprKind, Ident, TextPart, UnaryOp, WithPart,
 };
+use cs_forms::CheckFault;
+use cs_forms::arguments::{Replaced, Replacing, with_replaced};
+use cs_forms::fault::mismatch;
+use cs_forms::joining::{called, chosen, constructed, indexed, joined};
+use cs_forms::leaves::{
+    assigned, dotted, empty_list, known_part, known_record, name_called, name_read, null,
+    record_of, static_member, step,
+};
+use cs_forms::library::{
+    callee_of_member, callee_of_value, null_member, static_callee, value_of_member,
+};
+use cs_forms::names::{Names, variable_of};
+use cs_forms::operators::{cast_type, operator_of, shown, unary_type};
+use cs_forms::types::{checked, fitting};
+use cs_forms::written::Declared;
 use cs_rules::{Callee, Checked};
 use sqlite_items::{Boxed, Items};
 use text_core::Place;
@@ -95,7 +95,7 @@ fn value_called(names: &Names<'_>, place: Place, kind: &ExprKind) -> Result<Call
 
 /// Values, in order.
 #[cycle(expressions)]
-#[tactic(auto, using(crate::proofs::FrontLemmas::front_none, crate::proofs::FrontLemmas::front_more, crate::proofs::FrontLemmas::front_end))]
+#[tactic(auto, using(cs_forms::proofs::FrontLemmas::front_none, cs_forms::proofs::FrontLemmas::front_more, cs_forms::proofs::FrontLemmas::front_end))]
 fn values(names: &Names<'_>, arguments: &[Expr]) -> Result<Vec<Checked>, CheckFault>
     ensures { AgreesBy (λ xs. xs.items) result (each (λ argument. argument (scope_of names.now)) (map (λ x. x.value) (map uses arguments.now))) }
 {
@@ -129,7 +129,7 @@ fn piece(names: &Names<'_>, part: &TextPart) -> Result<Code, CheckFault>
 }
 
 #[cycle(expressions)]
-#[tactic(auto, using(crate::proofs::FrontLemmas::front_none, crate::proofs::FrontLemmas::front_more, crate::proofs::FrontLemmas::front_end))]
+#[tactic(auto, using(cs_forms::proofs::FrontLemmas::front_none, cs_forms::proofs::FrontLemmas::front_more, cs_forms::proofs::FrontLemmas::front_end))]
 fn pieces(names: &Names<'_>, parts: &[TextPart]) -> Result<Items<Code>, CheckFault>
     ensures { Agrees result (each (λ part. part (scope_of names.now)) (map piece_of parts.now)) }
 {

@@ -3,16 +3,17 @@ ghost use Rattle.std.specs.Prelude.{option_map};
 ghost use Rattle.cs_rules.specs.Judged.{if_there};
 ghost use Rattle.cs_rules.specs.Statements as spec;
 ghost use Rattle.cs_rules.specs.Trees.{uses};
-ghost use Rattle.cs_check.specs.Agrees.{Agrees, AgreesBy};
+ghost use Rattle.cs_forms.specs.Agrees.{Agrees, AgreesBy};
 ghost use Rattle.cs_check.specs.Steps as steps;
-ghost use Rattle.cs_check.specs.Views.{scope_of, head_view, listed_view};
+ghost use Rattle.cs_forms.specs.Views.{scope_of, listed_view};
+ghost use Rattle.cs_check.specs.Views.{head_view};
 
-use crate::CheckFault;
 use crate::expressions::value;
-use crate::joining::{Listed, items_and_code};
-use crate::names::Names;
-use crate::types::fitting;
 use cs_ast::{Code, CsType, Expr};
+use cs_forms::CheckFault;
+use cs_forms::joining::{Listed, items_and_code};
+use cs_forms::names::Names;
+use cs_forms::types::fitting;
 use sqlite_items::Boxed;
 
 /// A condition.

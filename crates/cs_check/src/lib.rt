@@ -5,24 +5,13 @@
 //! for the layers above; that accepted code is never stuck when it runs is a law elsewhere.
 #![tactic(auto)]
 
-mod arguments;
 mod expressions;
-mod fault;
 mod heads;
-mod joining;
-mod labels;
-mod leaves;
-mod library;
 mod locals;
-mod members;
-mod names;
-mod operators;
 mod statement_codes;
 mod statements;
-mod types;
 mod whole;
-mod written;
 
+pub use cs_forms::CheckFault;
 pub use cs_rules::{Checked, ExprType, Rule};
-pub use fault::CheckFault;
 pub use whole::{check_body, check_expr};

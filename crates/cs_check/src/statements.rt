@@ -3,20 +3,20 @@ ghost use Rattle.std.specs.Prelude.{◌≡◌, map, option_map, OnOk, take, leng
 ghost use Rattle.cs_rules.specs.Judged.{each, if_there};
 ghost use Rattle.cs_rules.specs.Statements as spec;
 ghost use Rattle.cs_rules.specs.Trees.{uses, statement as statement_of, statement_of_kind, section as section_of};
-ghost use Rattle.cs_check.specs.Agrees.{Agrees, AgreesBy};
-ghost use Rattle.cs_check.specs.Views.{scope_of};
+ghost use Rattle.cs_forms.specs.Agrees.{Agrees, AgreesBy};
+ghost use Rattle.cs_forms.specs.Views.{scope_of};
 
-use crate::CheckFault;
 use crate::expressions::value;
-use crate::fault::mismatch;
 use crate::heads::{condition, heading, list_of};
-use crate::joining::Listed;
-use crate::labels::{constants, decides, has_default};
 use crate::locals::local;
-use crate::names::Names;
 use crate::statement_codes::{for_code, for_each_code, if_code, while_code};
-use crate::types::{fits, fitting};
 use cs_ast::{Code, CsType, Expr, Ident, Section, Stmt, StmtKind};
+use cs_forms::CheckFault;
+use cs_forms::fault::mismatch;
+use cs_forms::joining::Listed;
+use cs_forms::labels::{constants, decides, has_default};
+use cs_forms::names::Names;
+use cs_forms::types::{fits, fitting};
 use cs_rules::ExprType;
 use sqlite_items::{Boxed, Items};
 use text_core::Place;
@@ -105,7 +105,7 @@ fn form(names: &mut Names<'_>, place: Place, kind: &StmtKind) -> Result<Code, Ch
 
 /// Statements, in order.
 #[cycle(statements)]
-#[tactic(auto, using(crate::proofs::FrontLemmas::front_none, crate::proofs::FrontLemmas::front_more, crate::proofs::FrontLemmas::front_end, crate::proofs::ScopeLemmas::kept_self, crate::proofs::ScopeLemmas::kept_on))]
+#[tactic(auto, using(cs_forms::proofs::FrontLemmas::front_none, cs_forms::proofs::FrontLemmas::front_more, cs_forms::proofs::FrontLemmas::front_end, crate::proofs::ScopeLemmas::kept_self, crate::proofs::ScopeLemmas::kept_on))]
 pub fn in_order(names: &mut Names<'_>, body: &[Stmt]) -> Result<Items<Code>, CheckFault>
     ensures does { Agrees result (spec.in_order (map statement_of body.now) (scope_of names.old)) }
     ensures scope { names.new.scope ≡ names.old.scope }
@@ -284,7 +284,7 @@ fn section(names: &mut Names<'_>, decided: &ExprType, it: &Section) -> Result<Co
 }
 
 #[cycle(statements)]
-#[tactic(auto, using(crate::proofs::FrontLemmas::front_none, crate::proofs::FrontLemmas::front_more, crate::proofs::FrontLemmas::front_end))]
+#[tactic(auto, using(cs_forms::proofs::FrontLemmas::front_none, cs_forms::proofs::FrontLemmas::front_more, cs_forms::proofs::FrontLemmas::front_end))]
 fn sections(
     names: &mut Names<'_>,
     decided: &ExprType,

@@ -1,13 +1,13 @@
 // Whole expressions and bodies.
 ghost use Rattle.std.specs.Prelude.{◌≡◌};
 ghost use Rattle.cs_rules.specs.Trees.{value_in, body_in};
-ghost use Rattle.cs_check.specs.Agrees.{Agrees};
+ghost use Rattle.cs_forms.specs.Agrees.{Agrees};
 
-use crate::CheckFault;
 use crate::expressions::value;
-use crate::names::Names;
 use crate::statements::in_order;
 use cs_ast::{Code, Expr, Scope, Stmt};
+use cs_forms::CheckFault;
+use cs_forms::names::Names;
 use cs_rules::Checked;
 use std::alloc::Global;
 

@@ -3,7 +3,7 @@ use Rattle.cs_ast.specs.declared.expression.ExprKind.{ExprKind}
 use Rattle.cs_ast.specs.declared.expression.TextPart.{TextPart}
 use Rattle.cs_rules.specs.Trees.{Uses, uses_of_kind, piece}
 use Rattle.cs_rules.proofs.Laws.{uses_law, int_value, bool_value, null_value, interpolated_value, name_value, unary_value, cast_value, binary_value, conditional_value, with_value, member_value, null_member_value, call_value, index_value, new_value, empty_list_value, static_value, assign_value, step_value, text_value, lambda_value, name_called, member_called, static_called, other_callee, hole_piece}
-use Rattle.cs_check.specs.Views.{scope_of}
+use Rattle.cs_forms.specs.Views.{scope_of}
 use Rattle.cs_check.proofs.expressions.+expressions.Goals as goal
 
 pub value-returns : goal.value-returns

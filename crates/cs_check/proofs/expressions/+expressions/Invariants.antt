@@ -2,8 +2,9 @@ use Rattle.std.proofs.Common.{◌≡◌, ◌+◌, ◌*◌, max, map, drop}
 use Rattle.cs_rules.specs.Judged.{each}
 use Rattle.cs_rules.specs.Expressions.{replacements, of_no_record}
 use Rattle.cs_rules.specs.Trees.{uses, piece, given}
-use Rattle.cs_check.specs.Views.{scope_of, declared}
-use Rattle.cs_check.proofs.FrontLemmas.{with_front, in_front}
+use Rattle.cs_forms.specs.Views.{scope_of, declared}
+use Rattle.cs_forms.proofs.FrontLemmas.{with_front}
+use Rattle.cs_check.proofs.FrontLemmas.{in_front}
 use Rattle.cs_check.proofs.expressions.+expressions.Given as goal
 
 -- the values so far, and those of the rest

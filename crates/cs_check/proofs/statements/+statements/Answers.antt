@@ -3,7 +3,7 @@ use Rattle.cs_ast.specs.declared.expression.StmtKind.{StmtKind}
 use Rattle.cs_rules.specs.Statements.{Statement}
 use Rattle.cs_rules.specs.Trees.{statement_of_kind}
 use Rattle.cs_rules.proofs.Laws.{statement_law, local_statement, empty_statement, block_statement, if_statement, while_statement, for_statement, for_each_statement, switch_statement, break_statement, continue_statement, return_statement, expr_statement, await_statement}
-use Rattle.cs_check.specs.Views.{scope_of}
+use Rattle.cs_forms.specs.Views.{scope_of}
 use Rattle.cs_check.proofs.statements.+statements.Goals as goal
 
 pub statement-returns-clause-does : goal.statement-returns-clause-does

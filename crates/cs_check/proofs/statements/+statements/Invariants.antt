@@ -2,8 +2,8 @@ use Rattle.std.proofs.Common.{◌≡◌, ◌+◌, ◌*◌, max, map, take, drop,
 use Rattle.cs_rules.specs.Judged.{each}
 use Rattle.cs_rules.specs.Statements.{in_order}
 use Rattle.cs_rules.specs.Trees.{statement, section}
-use Rattle.cs_check.specs.Views.{scope_of}
-use Rattle.cs_check.proofs.FrontLemmas.{with_front}
+use Rattle.cs_forms.specs.Views.{scope_of}
+use Rattle.cs_forms.proofs.FrontLemmas.{with_front}
 use Rattle.cs_check.proofs.statements.+statements.Given as goal
 
 -- the codes so far, and those of the rest in the scope that is reached
