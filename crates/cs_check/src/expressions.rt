@@ -13,17 +13,17 @@ use cs_ast::{
 use cs_forms::CheckFault;
 use cs_forms::arguments::{Replaced, Replacing, with_replaced};
 use cs_forms::fault::mismatch;
-use cs_forms::joining::{called, chosen, constructed, indexed, joined};
+use cs_forms::joining::{called, casted, chosen, constructed, indexed, joined};
 use cs_forms::leaves::{
     assigned, dotted, empty_list, known_part, known_record, name_called, name_read, null,
-    record_of, static_member, step,
+    record_of, static_member, step, text,
 };
 use cs_forms::library::{
     callee_of_member, callee_of_value, null_member, static_callee, value_of_member,
 };
 use cs_forms::names::{Names, variable_of};
-use cs_forms::operators::{cast_type, operator_of, shown, unary_type};
-use cs_forms::types::{checked, fitting};
+use cs_forms::operators::{operator_of, shown, unary_type};
+use cs_forms::types::{checked, code_of, fitting};
 use cs_forms::written::Declared;
 use cs_rules::{Callee, Checked};
 use sqlite_items::{Boxed, Items};
@@ -31,7 +31,7 @@ use text_core::Place;
 
 /// What an expression comes to as a value.
 #[cycle(expressions)]
-pub fn value(names: &Names<'_>, e: &Expr) -> Result<Checked, CheckFault>
+pub fn value(names: &Names<'_>, e: &Expr) -> Result<Boxed<Checked>, CheckFault>
     ensures { Agrees result (value_in (scope_of names.now) e.now) }
 {
     form(names, e.place, &e.kind)
@@ -39,14 +39,15 @@ pub fn value(names: &Names<'_>, e: &Expr) -> Result<Checked, CheckFault>
 
 /// The same by its form.
 #[cycle(expressions)]
-fn form(names: &Names<'_>, place: Place, kind: &ExprKind) -> Result<Checked, CheckFault>
+#[tactic(auto, using(cs_rules::proofs::Laws::lambda_value))]
+fn form(names: &Names<'_>, place: Place, kind: &ExprKind) -> Result<Boxed<Checked>, CheckFault>
     ensures { Agrees result ((uses_of_kind kind.now place).value (scope_of names.now)) }
 {
     match kind {
-        ExprKind::Int(number) => Ok(checked(place, Code::Int(*number), CsType::Int)),
-        ExprKind::Bool(truth) => Ok(checked(place, Code::Bool(*truth), CsType::Bool)),
-        ExprKind::Text(text) => Ok(checked(place, Code::Text(text.clone()?), CsType::Text)),
-        ExprKind::Null => Ok(null(place)),
+        ExprKind::Int(number) => checked(names.alloc, place, Code::Int(*number), CsType::Int),
+        ExprKind::Bool(truth) => checked(names.alloc, place, Code::Bool(*truth), CsType::Bool),
+        ExprKind::Text(it) => text(names.alloc, it, place),
+        ExprKind::Null => null(names.alloc, place),
         ExprKind::Interpolated(parts) => interpolated(names, parts.as_slice(), place),
         ExprKind::Name(name) => name_read(names, name, place),
         ExprKind::Unary(op, a) => unary(names, *op, a.get(), place),
@@ -73,7 +74,7 @@ fn form(names: &Names<'_>, place: Place, kind: &ExprKind) -> Result<Checked, Che
 
 /// What an expression comes to as what is called.
 #[cycle(expressions)]
-fn callee(names: &Names<'_>, e: &Expr) -> Result<Callee, CheckFault>
+fn callee(names: &Names<'_>, e: &Expr) -> Result<Boxed<Callee>, CheckFault>
     ensures { Agrees result (callee_in (scope_of names.now) e.now) }
 {
     match &e.kind {
@@ -86,7 +87,7 @@ fn callee(names: &Names<'_>, e: &Expr) -> Result<Callee, CheckFault>
 
 /// A value as what is called.
 #[cycle(expressions)]
-fn value_called(names: &Names<'_>, place: Place, kind: &ExprKind) -> Result<Callee, CheckFault>
+fn value_called(names: &Names<'_>, place: Place, kind: &ExprKind) -> Result<Boxed<Callee>, CheckFault>
     ensures { Agrees result (steps.value_called ((uses_of_kind kind.now place).value (scope_of names.now))) }
 {
     let x = form(names, place, kind)?;
@@ -96,7 +97,7 @@ fn value_called(names: &Names<'_>, place: Place, kind: &ExprKind) -> Result<Call
 /// Values, in order.
 #[cycle(expressions)]
 #[tactic(auto, using(cs_forms::proofs::FrontLemmas::front_none, cs_forms::proofs::FrontLemmas::front_more, cs_forms::proofs::FrontLemmas::front_end))]
-fn values(names: &Names<'_>, arguments: &[Expr]) -> Result<Vec<Checked>, CheckFault>
+fn values(names: &Names<'_>, arguments: &[Expr]) -> Result<Vec<Boxed<Checked>>, CheckFault>
     ensures { AgreesBy (λ xs. xs.items) result (each (λ argument. argument (scope_of names.now)) (map (λ x. x.value) (map uses arguments.now))) }
 {
     let mut xs = Vec::new(names.alloc);
@@ -112,8 +113,8 @@ fn hole(names: &Names<'_>, a: &Expr) -> Result<Code, CheckFault>
     ensures { Agrees result (spec.hole (uses a.now).value (scope_of names.now)) }
 {
     let x = value(names, a)?;
-    shown(x.place, &x.expr_type)?;
-    Ok(x.code)
+    shown(x.get().place, &x.get().expr_type)?;
+    Ok(code_of(x))
 }
 
 /// A piece of an interpolated text.
@@ -142,36 +143,32 @@ fn pieces(names: &Names<'_>, parts: &[TextPart]) -> Result<Items<Code>, CheckFau
 
 #[cycle(expressions)]
 #[tactic(auto, unfolding(cs_rules::specs::Expressions::interpolated))]
-fn interpolated(names: &Names<'_>, parts: &[TextPart], place: Place) -> Result<Checked, CheckFault>
+fn interpolated(names: &Names<'_>, parts: &[TextPart], place: Place) -> Result<Boxed<Checked>, CheckFault>
     ensures { Agrees result (spec.interpolated (map piece_of parts.now) place (scope_of names.now)) }
 {
     let codes = pieces(names, parts)?;
-    Ok(checked(place, Code::Interpolated(codes), CsType::Text))
+    checked(names.alloc, place, Code::Interpolated(codes), CsType::Text)
 }
 
 #[cycle(expressions)]
 #[tactic(auto, unfolding(cs_rules::specs::Expressions::unary))]
-fn unary(names: &Names<'_>, op: UnaryOp, a: &Expr, place: Place) -> Result<Checked, CheckFault>
+fn unary(names: &Names<'_>, op: UnaryOp, a: &Expr, place: Place) -> Result<Boxed<Checked>, CheckFault>
     ensures { Agrees result (spec.unary op (uses a.now).value place (scope_of names.now)) }
 {
     let x = value(names, a)?;
     let code = fitting(&unary_type(op), x)?;
-    let code = Code::Unary(op, Boxed::new(names.alloc, code)?);
-    Ok(checked(place, code, unary_type(op)))
+    let code = Boxed::new(names.alloc, code)?;
+    checked(names.alloc, place, Code::Unary(op, code), unary_type(op))
 }
 
 #[cycle(expressions)]
 #[tactic(auto, unfolding(cs_rules::specs::Expressions::cast))]
-fn cast(names: &Names<'_>, op: CastOp, a: &Expr, place: Place) -> Result<Checked, CheckFault>
+fn cast(names: &Names<'_>, op: CastOp, a: &Expr, place: Place) -> Result<Boxed<Checked>, CheckFault>
     ensures { Agrees result (spec.cast op (uses a.now).value place (scope_of names.now)) }
 {
     let x = value(names, a)?;
     let code = fitting(&CsType::Text, x)?;
-    Ok(Checked {
-        place,
-        code: Code::Cast(op, Boxed::new(names.alloc, code)?),
-        expr_type: cast_type(op),
-    })
+    casted(names.alloc, op, code, place)
 }
 
 #[cycle(expressions)]
@@ -182,7 +179,7 @@ fn binary(
     a: &Expr,
     b: &Expr,
     place: Place,
-) -> Result<Checked, CheckFault>
+) -> Result<Boxed<Checked>, CheckFault>
     ensures { Agrees result (spec.binary op (uses a.now).value (uses b.now).value place (scope_of names.now)) }
 {
     let x = value(names, a)?;
@@ -199,7 +196,7 @@ fn conditional(
     a: &Expr,
     b: &Expr,
     place: Place,
-) -> Result<Checked, CheckFault>
+) -> Result<Boxed<Checked>, CheckFault>
     ensures { Agrees result (spec.conditional (uses condition.now).value (uses a.now).value (uses b.now).value place (scope_of names.now)) }
 {
     let test = value(names, condition)?;
@@ -210,7 +207,7 @@ fn conditional(
 
 #[cycle(expressions)]
 #[tactic(auto, unfolding(cs_rules::specs::Expressions::index))]
-fn index(names: &Names<'_>, a: &Expr, i: &Expr, place: Place) -> Result<Checked, CheckFault>
+fn index(names: &Names<'_>, a: &Expr, i: &Expr, place: Place) -> Result<Boxed<Checked>, CheckFault>
     ensures { Agrees result (spec.index (uses a.now).value (uses i.now).value place (scope_of names.now)) }
 {
     let x = value(names, a)?;
@@ -220,12 +217,12 @@ fn index(names: &Names<'_>, a: &Expr, i: &Expr, place: Place) -> Result<Checked,
 
 #[cycle(expressions)]
 #[tactic(auto, unfolding(cs_rules::specs::Expressions::member))]
-fn member(names: &Names<'_>, a: &Expr, name: &Ident, place: Place) -> Result<Checked, CheckFault>
+fn member(names: &Names<'_>, a: &Expr, name: &Ident, place: Place) -> Result<Boxed<Checked>, CheckFault>
     ensures { Agrees result (spec.member (uses a.now).value name.now place (scope_of names.now)) }
 {
     let x = value(names, a)?;
-    let found = dotted(names, &x, name)?;
-    value_of_member(names.alloc, place, x.code, found)
+    let found = dotted(names, x.get(), name)?;
+    value_of_member(names.alloc, place, code_of(x), found)
 }
 
 #[cycle(expressions)]
@@ -235,11 +232,11 @@ fn member_or_null(
     a: &Expr,
     name: &Ident,
     place: Place,
-) -> Result<Checked, CheckFault>
+) -> Result<Boxed<Checked>, CheckFault>
     ensures { Agrees result (spec.member_or_null (uses a.now).value name.now place (scope_of names.now)) }
 {
     let x = value(names, a)?;
-    let found = dotted(names, &x, name)?;
+    let found = dotted(names, x.get(), name)?;
     null_member(names.alloc, place, x, found)
 }
 
@@ -250,12 +247,12 @@ fn member_called(
     a: &Expr,
     name: &Ident,
     place: Place,
-) -> Result<Callee, CheckFault>
+) -> Result<Boxed<Callee>, CheckFault>
     ensures { Agrees result (spec.member_called (uses a.now).value name.now place (scope_of names.now)) }
 {
     let x = value(names, a)?;
-    let found = dotted(names, &x, name)?;
-    callee_of_member(names.alloc, place, x.code, found)
+    let found = dotted(names, x.get(), name)?;
+    callee_of_member(names.alloc, place, code_of(x), found)
 }
 
 #[cycle(expressions)]
@@ -265,7 +262,7 @@ fn call(
     target: &Expr,
     arguments: &[Expr],
     place: Place,
-) -> Result<Checked, CheckFault>
+) -> Result<Boxed<Checked>, CheckFault>
     ensures { Agrees result (spec.call (uses target.now).callee (map (λ x. x.value) (map uses arguments.now)) place (scope_of names.now)) }
 {
     let callee = callee(names, target)?;
@@ -280,7 +277,7 @@ fn new(
     name: &Ident,
     arguments: &[Expr],
     place: Place,
-) -> Result<Checked, CheckFault>
+) -> Result<Boxed<Checked>, CheckFault>
     ensures { Agrees result (spec.new name.now (map (λ x. x.value) (map uses arguments.now)) place (scope_of names.now)) }
 {
     let found = known_record(names.scope.records.as_slice(), name)?;
@@ -331,7 +328,7 @@ fn replacements(
 /// The values of parts of what is no record.
 #[cycle(expressions)]
 #[tactic(auto, using(cs_rules::proofs::Laws::given_law))]
-fn of_no_record(names: &Names<'_>, parts: &[WithPart], wrong: Place) -> Result<Checked, CheckFault>
+fn of_no_record(names: &Names<'_>, parts: &[WithPart], wrong: Place) -> Result<Boxed<Checked>, CheckFault>
     ensures { Agrees result (spec.of_no_record (map given_of parts.now) wrong (scope_of names.now)) }
 {
     for part in parts {
@@ -345,10 +342,10 @@ fn of_no_record(names: &Names<'_>, parts: &[WithPart], wrong: Place) -> Result<C
 fn with_record(
     names: &Names<'_>,
     parts: &[WithPart],
-    x: Checked,
+    x: Boxed<Checked>,
     found: Declared<'_>,
     place: Place,
-) -> Result<Checked, CheckFault>
+) -> Result<Boxed<Checked>, CheckFault>
     ensures { Agrees result (spec.with_parts (Some (declared found.entry)) (map given_of parts.now) x place (scope_of names.now)) }
 {
     let replaced = replacements(names, parts, found)?;
@@ -362,12 +359,12 @@ fn with_of(
     a: &Expr,
     parts: &[WithPart],
     place: Place,
-) -> Result<Checked, CheckFault>
+) -> Result<Boxed<Checked>, CheckFault>
     ensures { Agrees result (spec.with_of (uses a.now).value (map given_of parts.now) place (scope_of names.now)) }
 {
     let x = value(names, a)?;
-    match record_of(names.scope.records.as_slice(), &x.expr_type) {
-        None => of_no_record(names, parts, x.place),
+    match record_of(names.scope.records.as_slice(), &x.get().expr_type) {
+        None => of_no_record(names, parts, x.get().place),
         Some(found) => with_record(names, parts, x, found, place),
     }
 }
@@ -380,7 +377,7 @@ fn assign(
     target: &Ident,
     a: &Expr,
     place: Place,
-) -> Result<Checked, CheckFault>
+) -> Result<Boxed<Checked>, CheckFault>
     ensures { Agrees result (spec.assign op target.now (uses a.now).value place (scope_of names.now)) }
 {
     let one = names.meant_at(target.place, &target.name)?;
@@ -388,5 +385,6 @@ fn assign(
     let variable = variable_of(target.place, &one.kind, one.place)?;
     let code = assigned(names, operator_of(op), target.place, &one.cs_type, x)?;
     let code = Boxed::new(names.alloc, code)?;
-    Ok(checked(place, Code::Assign(variable, op, code), CsType::Nothing))
+    let code = Code::Assign(variable, op, code);
+    checked(names.alloc, place, code, CsType::Nothing)
 }

@@ -13,7 +13,7 @@ use cs_ast::{Code, CsType, Expr};
 use cs_forms::CheckFault;
 use cs_forms::joining::{Listed, items_and_code};
 use cs_forms::names::Names;
-use cs_forms::types::fitting;
+use cs_forms::types::{code_of, fitting};
 use sqlite_items::Boxed;
 
 /// A condition.
@@ -29,7 +29,7 @@ fn stepped(names: &Names<'_>, a: &Expr) -> Result<Code, CheckFault>
     ensures { Agrees result (spec.stepped (uses a.now).value (scope_of names.now)) }
 {
     let x = value(names, a)?;
-    Ok(x.code)
+    Ok(code_of(x))
 }
 
 /// A condition, where there is one.
@@ -81,11 +81,12 @@ pub fn heading(
     start: Option<Boxed<Code>>,
     test: &Option<Expr>,
     step: &Option<Expr>,
-) -> Result<Head, CheckFault>
+) -> Result<Boxed<Head>, CheckFault>
     ensures { AgreesBy head_view result (steps.heading start (option_map (λ x. x.value) (option_map uses test.now))
         (option_map (λ x. x.value) (option_map uses step.now)) (scope_of names.now)) }
 {
     let test = optional_condition(names, test)?;
     let step = optional_step(names, step)?;
-    Ok(Head { start, test, step })
+    let head = Boxed::new(names.alloc, Head { start, test, step })?;
+    Ok(head)
 }

@@ -14,7 +14,7 @@ use cs_ast::{Code, CsType, Expr, Ident, TypeExpr};
 use cs_forms::CheckFault;
 use cs_forms::fault::mismatch;
 use cs_forms::names::Names;
-use cs_forms::types::{copy_type, fits, own_type};
+use cs_forms::types::{boxed_code, copy_type, fits, own_type};
 use cs_forms::written::written;
 use cs_rules::{Checked, Rule};
 use sqlite_items::Boxed;
@@ -36,7 +36,11 @@ fn declared_type(
 }
 
 /// The initial value of a local.
-fn initial(names: &Names<'_>, name: &Ident, a: &Option<Expr>) -> Result<Checked, CheckFault>
+fn initial(
+    names: &Names<'_>,
+    name: &Ident,
+    a: &Option<Expr>,
+) -> Result<Boxed<Checked>, CheckFault>
     ensures { Agrees result (spec.initial name.now (option_map (λ x. x.value) (option_map uses a.now)) (scope_of names.now)) }
 {
     match a {
@@ -75,11 +79,12 @@ struct Ready {
     code: Code,
 }
 
-fn typed(alloc: Global, declared: Option<CsType>, x: Checked) -> Result<Ready, CheckFault>
+fn typed(alloc: Global, declared: Option<CsType>, x: Boxed<Checked>) -> Result<Ready, CheckFault>
     ensures { AgreesBy ready_view result (steps.typed declared x) }
 {
-    let cs_type = local_type(alloc, declared, &x)?;
-    let code = Code::Declare(Boxed::new(alloc, x.code)?);
+    let cs_type = local_type(alloc, declared, x.get())?;
+    let value = boxed_code(alloc, x)?;
+    let code = Code::Declare(value);
     Ok(Ready { cs_type, code })
 }
 

@@ -28,11 +28,12 @@ pub fn while_code(alloc: Global, test: Code, turn: Code) -> Result<Code, AllocEr
     Ok(Code::While(test, turn))
 }
 
-pub fn for_code(alloc: Global, head: Head, turn: Code) -> Result<Code, AllocError>
+pub fn for_code(alloc: Global, head: Boxed<Head>, turn: Code) -> Result<Code, AllocError>
     ensures { IfOk result (λ code. code ≡ code_by.For head.start head.test head.step turn) }
 {
     let turn = Boxed::new(alloc, turn)?;
-    Ok(Code::For(head.start, head.test, head.step, turn))
+    let Head { start, test, step } = head.into_inner();
+    Ok(Code::For(start, test, step, turn))
 }
 
 pub fn for_each_code(alloc: Global, list: Code, turn: Code) -> Result<Code, AllocError>

@@ -16,7 +16,7 @@ use cs_forms::fault::mismatch;
 use cs_forms::joining::Listed;
 use cs_forms::labels::{constants, decides, has_default};
 use cs_forms::names::Names;
-use cs_forms::types::{fits, fitting};
+use cs_forms::types::{boxed_code, fits, fitting};
 use cs_rules::ExprType;
 use sqlite_items::{Boxed, Items};
 use text_core::Place;
@@ -36,7 +36,8 @@ fn perform(names: &Names<'_>, a: &Expr) -> Result<Code, CheckFault>
     ensures { AgreesBy (λ code. spec.done (scope_of names.now) code) result (spec.perform (uses a.now).value (scope_of names.now)) }
 {
     let x = value(names, a)?;
-    Ok(Code::Perform(Boxed::new(names.alloc, x.code)?))
+    let code = boxed_code(names.alloc, x)?;
+    Ok(Code::Perform(code))
 }
 
 #[tactic(auto, unfolding(cs_rules::specs::Statements::return_of))]
@@ -310,9 +311,10 @@ fn switch(names: &mut Names<'_>, all: &[Section], a: &Expr) -> Result<Code, Chec
     ensures kept { OnOk result (take (length names.old.locals) names.new.locals ≡ names.old.locals) }
 {
     let x = value(names, a)?;
-    if !decides(&x.expr_type) {
-        return Err(mismatch(x.place));
+    if !decides(&x.get().expr_type) {
+        return Err(mismatch(x.get().place));
     }
-    let codes = sections(names, &x.expr_type, all)?;
-    Ok(Code::Switch(Boxed::new(names.alloc, x.code)?, codes))
+    let codes = sections(names, &x.get().expr_type, all)?;
+    let code = boxed_code(names.alloc, x)?;
+    Ok(Code::Switch(code, codes))
 }

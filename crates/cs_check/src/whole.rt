@@ -16,7 +16,8 @@ pub fn check_expr(alloc: Global, e: &Expr, scope: &Scope) -> Result<Checked, Che
     ensures { Agrees result (value_in scope.now e.now) }
 {
     let names = Names::new(alloc, scope);
-    value(&names, e)
+    let x = value(&names, e)?;
+    Ok(x.into_inner())
 }
 
 /// The code of the statements of a body in a scope, a block, or the first rule that they break.

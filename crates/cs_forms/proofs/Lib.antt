@@ -1,2 +1,3 @@
 pub mod NameLemmas
 pub mod FrontLemmas
+pub mod CallLemmas

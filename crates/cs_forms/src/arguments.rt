@@ -1,12 +1,14 @@
 // Values where others are wanted: arguments, and parts behind `with`.
 ghost use Rattle.std.specs.Prelude.{◌≡◌, [], ◌∷◌, ◌++◌, map, IfOk, OnOk};
+ghost use Rattle.cs_ast.specs.declared.code.Code.TheVariants as code_by;
+ghost use Rattle.cs_rules.specs.Judged.{fine};
 ghost use Rattle.cs_rules.specs.Expressions as spec;
 ghost use Rattle.cs_forms.specs.Agrees.{Agrees};
 ghost use Rattle.cs_forms.specs.Views.{replaced_view};
 
 use crate::CheckFault;
 use crate::fault::mismatch;
-use crate::types::wants;
+use crate::types::{code_of, typed, wants};
 use cs_ast::{Code, CsType};
 use cs_rules::Checked;
 use sqlite_items::{Boxed, Items};
@@ -18,7 +20,7 @@ use text_core::{Oom, Place};
 pub struct Replacing {
     pub number: u32,
     pub wanted: CsType,
-    pub value: Checked,
+    pub value: Boxed<Checked>,
 }
 
 /// New values of parts, in order.
@@ -26,7 +28,7 @@ pub struct Replacing {
 pub struct Replaced {
     pub positions: Items<u32>,
     pub wanted: Items<CsType>,
-    pub values: Vec<Checked>,
+    pub values: Vec<Boxed<Checked>>,
 }
 
 impl Replaced {
@@ -51,7 +53,7 @@ impl Replaced {
 }
 
 /// Refuses the first value that does not fit where it is wanted.
-fn all_fit(wanted: &[CsType], xs: &[Checked]) -> Result<(), CheckFault>
+fn all_fit(wanted: &[CsType], xs: &[Boxed<Checked>]) -> Result<(), CheckFault>
     ensures { Agrees result (spec.all_fit wanted.now xs.now) }
 {
     let mut types = wanted;
@@ -60,6 +62,7 @@ fn all_fit(wanted: &[CsType], xs: &[Checked]) -> Result<(), CheckFault>
         let Some((x, other_values)) = values.split_first() else {
             return Ok(());
         };
+        let x = x.get();
         wants(cs_type, x.place, &x.expr_type)?;
         types = other_types;
         values = other_values;
@@ -67,10 +70,10 @@ fn all_fit(wanted: &[CsType], xs: &[Checked]) -> Result<(), CheckFault>
     Ok(())
 }
 
-fn codes_of(alloc: Global, xs: Vec<Checked>) -> Result<Items<Code>, Oom>
+fn codes_of(alloc: Global, xs: Vec<Boxed<Checked>>) -> Result<Items<Code>, Oom>
     ensures { IfOk result (λ codes. codes ≡ map (λ x. x.code) xs.items) }
 {
-    let codes = xs.into_iter().map(|x| x.code).collect(alloc)?;
+    let codes = xs.into_iter().map(|x| code_of(x)).collect(alloc)?;
     Ok(Items::from_vec(codes))
 }
 
@@ -80,7 +83,7 @@ pub fn passed(
     alloc: Global,
     place: Place,
     takes: &[CsType],
-    xs: Vec<Checked>,
+    xs: Vec<Boxed<Checked>>,
 ) -> Result<Items<Code>, CheckFault>
     ensures { Agrees result (spec.passed place takes.now xs.items) }
 {
@@ -91,22 +94,38 @@ pub fn passed(
     Ok(codes_of(alloc, xs)?)
 }
 
+/// A record with new values of parts, by their codes.
+fn changed(
+    alloc: Global,
+    x: Boxed<Checked>,
+    positions: Items<u32>,
+    codes: Items<Code>,
+    place: Place,
+) -> Result<Boxed<Checked>, CheckFault>
+    ensures { Agrees result (fine (record { place = place; code = code_by.With x.code positions codes; expr_type = x.expr_type })) }
+{
+    let Checked {
+        code, expr_type, ..
+    } = x.into_inner();
+    let expr_type = Boxed::new(alloc, expr_type)?;
+    let record = Boxed::new(alloc, code)?;
+    typed(alloc, place, Code::With(record, positions, codes), expr_type)
+}
+
 /// A record with new values of parts.
 #[tactic(auto, unfolding(cs_rules::specs::Expressions::with_replaced))]
 pub fn with_replaced(
     alloc: Global,
-    x: Checked,
+    x: Boxed<Checked>,
     replaced: Replaced,
     place: Place,
-) -> Result<Checked, CheckFault>
+) -> Result<Boxed<Checked>, CheckFault>
     ensures { Agrees result (spec.with_replaced x place (replaced_view replaced)) }
 {
     all_fit(replaced.wanted.as_slice(), replaced.values.as_slice())?;
-    let record = Boxed::new(alloc, x.code)?;
-    let codes = codes_of(alloc, replaced.values)?;
-    Ok(Checked {
-        place,
-        code: Code::With(record, replaced.positions, codes),
-        expr_type: x.expr_type,
-    })
+    let Replaced {
+        positions, values, ..
+    } = replaced;
+    let codes = codes_of(alloc, values)?;
+    changed(alloc, x, positions, codes, place)
 }

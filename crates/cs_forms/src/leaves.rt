@@ -2,12 +2,15 @@
 ghost use Rattle.std.specs.Prelude.{◌≡◌, IfOk, option_map};
 ghost use Rattle.cs_ast.specs.declared.code.Code.TheVariants as code_by;
 ghost use Rattle.cs_ast.specs.declared.cs_type.CsType.{out-CsType};
+ghost use Rattle.cs_ast.specs.declared.cs_type.CsType.TheVariants as ty;
 ghost use Rattle.cs_rules.specs.declared.checked.ExprType.TheVariants as type_by;
 ghost use Rattle.cs_rules.specs.declared.rule.Rule.TheVariants.{UnknownName, UnknownType};
 ghost use Rattle.cs_rules.specs.declared.callee.Called.TheVariants as called_by;
-ghost use Rattle.cs_rules.specs.Judged.{known};
+ghost use Rattle.cs_rules.specs.Judged.{fine, known};
 ghost use Rattle.cs_rules.specs.Expressions as spec;
 ghost use Rattle.cs_rules.specs.Library as library_spec;
+ghost use Rattle.cs_rules.specs.Operators as operators_spec;
+ghost use Rattle.cs_rules.specs.Types as types_spec;
 ghost use Rattle.cs_rules.specs.Written as written_spec;
 ghost use Rattle.cs_forms.specs.Agrees.{Agrees, AgreesBy};
 ghost use Rattle.cs_forms.specs.Views.{declared, scope_of};
@@ -18,7 +21,7 @@ use crate::library::{callee_of_value, static_value};
 use crate::members::{Part, behind, part_named};
 use crate::names::{Names, value_of_name, variable_of};
 use crate::operators::{binary_type, either_type, is_value};
-use crate::types::{checked, copy_type, copy_types, fitting, own_type, wants};
+use crate::types::{checked, code_of, copy_type, copy_types, fitting, own_type, typed, wants};
 use crate::written::{Declared, record_named, written};
 use cs_ast::{
     Argument, BinaryOp, Code, CsType, Ident, LibraryMember, Member, NameKind, Named, StaticType,
@@ -29,19 +32,27 @@ use sqlite_items::{Boxed, Items};
 use std::alloc::{AllocError, Global};
 use text_core::{Place, Txt};
 
-pub fn null(place: Place) -> Checked
-    ensures { result ≡ record { place = place; code = code_by.Null; expr_type = type_by.Null } }
+pub fn null(alloc: Global, place: Place) -> Result<Boxed<Checked>, CheckFault>
+    ensures { Agrees result (fine (record { place = place; code = code_by.Null; expr_type = type_by.Null })) }
 {
-    Checked {
-        place,
-        code: Code::Null,
-        expr_type: ExprType::Null,
-    }
+    let expr_type = Boxed::new(alloc, ExprType::Null)?;
+    typed(alloc, place, Code::Null, expr_type)
+}
+
+pub fn text(alloc: Global, text: &Txt, place: Place) -> Result<Boxed<Checked>, CheckFault>
+    ensures { Agrees result (fine (types_spec.checked place (code_by.Text text.now) ty.Text)) }
+{
+    let text = text.clone()?;
+    checked(alloc, place, Code::Text(text), CsType::Text)
 }
 
 /// The type of `a ? b : c` by those of b and c.
 #[tactic(auto, unfolding(cs_rules::specs::Expressions::chosen_type, cs_rules::specs::Operators::either_type))]
-pub fn chosen_type(alloc: Global, x: &Checked, y: &Checked) -> Result<ExprType, CheckFault>
+pub fn chosen_type(
+    alloc: Global,
+    x: &Checked,
+    y: &Checked,
+) -> Result<Boxed<ExprType>, CheckFault>
     ensures { Agrees result (spec.chosen_type x.now y.now) }
 {
     let allowed = is_value(&x.expr_type);
@@ -79,13 +90,17 @@ pub fn items_of(place: Place, given: &ExprType) -> Result<&CsType, CheckFault>
 
 /// What a name behind a dot stands for.
 #[tactic(auto, unfolding(cs_rules::specs::Expressions::dotted))]
-pub fn dotted(names: &Names<'_>, x: &Checked, name: &Ident) -> Result<Dotted, CheckFault>
+pub fn dotted(
+    names: &Names<'_>,
+    x: &Checked,
+    name: &Ident,
+) -> Result<Boxed<Dotted>, CheckFault>
     ensures { Agrees result (spec.dotted (scope_of names.now) x.now name.now) }
 {
     let cs_type = own_type(x.place, &x.expr_type)?;
     let records = names.scope.records.as_slice();
     match behind(names.alloc, records, cs_type, &name.name)? {
-        Some(found) => Ok(found),
+        Some(found) => Ok(Boxed::new(names.alloc, found)?),
         None => Err(CheckFault::Broken {
             rule: Rule::UnknownName,
             place: name.place,
@@ -135,13 +150,13 @@ pub fn empty_list(
     names: &Names<'_>,
     cs_type: &TypeExpr,
     place: Place,
-) -> Result<Checked, CheckFault>
+) -> Result<Boxed<Checked>, CheckFault>
     ensures { Agrees result (spec.empty_list cs_type.now place (scope_of names.now)) }
 {
     let item = written(names.alloc, names.scope.records.as_slice(), cs_type)?;
     let item = Boxed::new(names.alloc, item)?;
     let code = Code::Library(LibraryMember::EmptyList, Items::new(names.alloc));
-    Ok(checked(place, code, CsType::List(item)))
+    checked(names.alloc, place, code, CsType::List(item))
 }
 
 #[tactic(auto, unfolding(cs_rules::specs::Expressions::static_member))]
@@ -150,10 +165,40 @@ pub fn static_member(
     of: StaticType,
     name: &Ident,
     place: Place,
-) -> Result<Checked, CheckFault>
+) -> Result<Boxed<Checked>, CheckFault>
     ensures { Agrees result (spec.static_member of name.now place (scope_of names.now)) }
 {
     static_value(names.alloc, place, of, name)
+}
+
+/// The type that an operator gives of a variable and a value.
+fn operated(
+    names: &Names<'_>,
+    op: BinaryOp,
+    target: Place,
+    cs_type: &CsType,
+    x: &Checked,
+) -> Result<Boxed<ExprType>, CheckFault>
+    ensures { Agrees result (operators_spec.binary_type (scope_of names.now).records op target (type_by.Of cs_type.now) x.now.place x.now.expr_type) }
+{
+    let old = of_type(names.alloc, cs_type)?;
+    let records = names.scope.records.as_slice();
+    binary_type(
+        names.alloc,
+        records,
+        op,
+        target,
+        old.get(),
+        x.place,
+        &x.expr_type,
+    )
+}
+
+fn of_type(alloc: Global, cs_type: &CsType) -> Result<Boxed<ExprType>, AllocError>
+    ensures { IfOk result (λ expr_type. expr_type ≡ type_by.Of cs_type.now) }
+{
+    let copied = copy_type(alloc, cs_type)?;
+    Boxed::new(alloc, ExprType::Of(copied))
 }
 
 /// What is assigned: the value itself, or what the operator gives of the old value and it.
@@ -163,26 +208,16 @@ pub fn assigned(
     op: Option<BinaryOp>,
     target: Place,
     cs_type: &CsType,
-    x: Checked,
+    x: Boxed<Checked>,
 ) -> Result<Code, CheckFault>
     ensures { Agrees result (spec.assigned (scope_of names.now).records op target cs_type.now x) }
 {
     let Some(op) = op else {
         return fitting(cs_type, x);
     };
-    let old = ExprType::Of(copy_type(names.alloc, cs_type)?);
-    let records = names.scope.records.as_slice();
-    let given = binary_type(
-        names.alloc,
-        records,
-        op,
-        target,
-        &old,
-        x.place,
-        &x.expr_type,
-    )?;
-    wants(cs_type, x.place, &given)?;
-    Ok(x.code)
+    let given = operated(names, op, target, cs_type, x.get())?;
+    wants(cs_type, x.get().place, given.get())?;
+    Ok(code_of(x))
 }
 
 #[tactic(auto, unfolding(cs_rules::specs::Expressions::step))]
@@ -191,18 +226,22 @@ pub fn step(
     op: StepOp,
     target: &Ident,
     place: Place,
-) -> Result<Checked, CheckFault>
+) -> Result<Boxed<Checked>, CheckFault>
     ensures { Agrees result (spec.step op target.now place (scope_of names.now)) }
 {
     let one = names.meant_at(target.place, &target.name)?;
     let variable = variable_of(target.place, &one.kind, one.place)?;
-    let old = ExprType::Of(copy_type(names.alloc, &one.cs_type)?);
-    wants(&CsType::Int, target.place, &old)?;
-    Ok(checked(place, Code::Step(variable, op), CsType::Nothing))
+    let old = of_type(names.alloc, &one.cs_type)?;
+    wants(&CsType::Int, target.place, old.get())?;
+    checked(names.alloc, place, Code::Step(variable, op), CsType::Nothing)
 }
 
 #[tactic(auto, unfolding(cs_rules::specs::Expressions::name_read))]
-pub fn name_read(names: &Names<'_>, name: &Txt, place: Place) -> Result<Checked, CheckFault>
+pub fn name_read(
+    names: &Names<'_>,
+    name: &Txt,
+    place: Place,
+) -> Result<Boxed<Checked>, CheckFault>
     ensures { Agrees result (spec.name_read name.now place (scope_of names.now)) }
 {
     let one = names.meant_at(place, name)?;
@@ -214,19 +253,27 @@ fn method(
     number: u32,
     takes: Items<CsType>,
     gives: &CsType,
-) -> Result<Callee, AllocError>
+) -> Result<Boxed<Callee>, AllocError>
     ensures { IfOk result (λ callee. callee ≡ record { called = called_by.Method number; takes = takes; gives = gives.now }) }
 {
     let gives = copy_type(alloc, gives)?;
-    Ok(Callee {
-        called: Called::Method(number),
-        takes,
-        gives,
-    })
+    let called = Called::Method(number);
+    Boxed::new(
+        alloc,
+        Callee {
+            called,
+            takes,
+            gives,
+        },
+    )
 }
 
 #[tactic(auto, unfolding(cs_rules::specs::Expressions::callee_by_kind))]
-fn callee_by_kind(alloc: Global, place: Place, one: &Named) -> Result<Callee, CheckFault>
+fn callee_by_kind(
+    alloc: Global,
+    place: Place,
+    one: &Named,
+) -> Result<Boxed<Callee>, CheckFault>
     ensures { Agrees result (spec.callee_by_kind place one.now one.now.kind) }
 {
     match &one.kind {
@@ -243,7 +290,11 @@ fn callee_by_kind(alloc: Global, place: Place, one: &Named) -> Result<Callee, Ch
 }
 
 #[tactic(auto, unfolding(cs_rules::specs::Expressions::name_called))]
-pub fn name_called(names: &Names<'_>, name: &Txt, place: Place) -> Result<Callee, CheckFault>
+pub fn name_called(
+    names: &Names<'_>,
+    name: &Txt,
+    place: Place,
+) -> Result<Boxed<Callee>, CheckFault>
     ensures { Agrees result (spec.name_called name.now place (scope_of names.now)) }
 {
     let one = names.meant_at(place, name)?;

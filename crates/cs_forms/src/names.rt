@@ -12,7 +12,7 @@ use crate::fault::mismatch;
 use crate::types::{checked, copy_type};
 use cs_ast::{Code, CsType, Ident, NameKind, Named, Scope, Variable};
 use cs_rules::{Checked, Rule};
-use sqlite_items::Items;
+use sqlite_items::{Boxed, Items};
 use std::alloc::Global;
 use text_core::{Oom, Place, Txt};
 
@@ -162,7 +162,11 @@ impl Names<'_> {
 
 /// A name as a value.
 #[tactic(auto, unfolding(cs_rules::specs::Names::value_of_name))]
-pub fn value_of_name(alloc: Global, place: Place, one: &Named) -> Result<Checked, CheckFault>
+pub fn value_of_name(
+    alloc: Global,
+    place: Place,
+    one: &Named,
+) -> Result<Boxed<Checked>, CheckFault>
     ensures { Agrees result (spec.value_of_name place one.now) }
 {
     let code = match &one.kind {
@@ -172,7 +176,8 @@ pub fn value_of_name(alloc: Global, place: Place, one: &Named) -> Result<Checked
         NameKind::Getter => Code::Call(one.place, Items::new(alloc)),
         NameKind::Method(_) => return Err(mismatch(place)),
     };
-    Ok(checked(place, code, copy_type(alloc, &one.cs_type)?))
+    let cs_type = copy_type(alloc, &one.cs_type)?;
+    checked(alloc, place, code, cs_type)
 }
 
 /// A name as the target of an assignment.

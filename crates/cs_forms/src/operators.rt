@@ -1,7 +1,8 @@
 // What operators take and give.
 ghost use Rattle.std.specs.Prelude.{◌≡◌, IfOk};
 ghost use Rattle.cs_rules.specs.declared.rule.Rule.TheVariants.{TypeMismatch};
-ghost use Rattle.cs_rules.specs.Judged.{known};
+ghost use Rattle.cs_rules.specs.declared.checked.ExprType.TheVariants.{Of};
+ghost use Rattle.cs_rules.specs.Judged.{fine, known};
 ghost use Rattle.cs_rules.specs.Types as types_spec;
 ghost use Rattle.cs_rules.specs.Operators as spec;
 ghost use Rattle.cs_forms.specs.Agrees.{Agrees};
@@ -12,6 +13,7 @@ use crate::types::{common_type, has_values, may_be_null, same_type, wants};
 use crate::written::is_comparable;
 use cs_ast::{AssignOp, BinaryOp, CastOp, CsType, Member, UnaryOp};
 use cs_rules::ExprType;
+use sqlite_items::Boxed;
 use std::alloc::Global;
 use text_core::{Oom, Place};
 
@@ -164,33 +166,48 @@ fn are_compared(alloc: Global, records: &[Member], a: &ExprType, b: &ExprType) -
     }
 }
 
+/// A type of its own.
+fn of_type(alloc: Global, cs_type: CsType) -> Result<Boxed<ExprType>, CheckFault>
+    ensures { Agrees result (fine (Of cs_type)) }
+{
+    let expr_type = Boxed::new(alloc, ExprType::Of(cs_type))?;
+    Ok(expr_type)
+}
+
 /// Both sides of one type.
 fn alike(
+    alloc: Global,
     taken: &CsType,
     given: CsType,
     first: Place,
     a: &ExprType,
     second: Place,
     b: &ExprType,
-) -> Result<ExprType, CheckFault>
+) -> Result<Boxed<ExprType>, CheckFault>
     ensures { Agrees result (spec.alike taken.now given first a.now second b.now) }
 {
     wants(taken, first, a)?;
     wants(taken, second, b)?;
-    Ok(ExprType::Of(given))
+    of_type(alloc, given)
 }
 
 /// `+` joins where a text is on one side, and else it adds.
 #[tactic(auto, unfolding(cs_rules::specs::Operators::sum_type))]
-fn sum_type(first: Place, a: &ExprType, second: Place, b: &ExprType) -> Result<ExprType, CheckFault>
+fn sum_type(
+    alloc: Global,
+    first: Place,
+    a: &ExprType,
+    second: Place,
+    b: &ExprType,
+) -> Result<Boxed<ExprType>, CheckFault>
     ensures { Agrees result (spec.sum_type first a.now second b.now) }
 {
     if is_text(a) || is_text(b) {
         shown(first, a)?;
         shown(second, b)?;
-        return Ok(ExprType::Of(CsType::Text));
+        return of_type(alloc, CsType::Text);
     }
-    alike(&CsType::Int, CsType::Int, first, a, second, b)
+    alike(alloc, &CsType::Int, CsType::Int, first, a, second, b)
 }
 
 fn common_at(
@@ -198,11 +215,11 @@ fn common_at(
     a: &ExprType,
     second: Place,
     b: &ExprType,
-) -> Result<ExprType, CheckFault>
+) -> Result<Boxed<ExprType>, CheckFault>
     ensures { Agrees result (known TypeMismatch second (types_spec.common_type a.now b.now)) }
 {
     match common_type(alloc, a, b)? {
-        Some(common) => Ok(common),
+        Some(common) => Ok(Boxed::new(alloc, common)?),
         None => Err(mismatch(second)),
     }
 }
@@ -216,7 +233,7 @@ pub fn either_type(
     a: &ExprType,
     second: Place,
     b: &ExprType,
-) -> Result<ExprType, CheckFault>
+) -> Result<Boxed<ExprType>, CheckFault>
     ensures { Agrees result (spec.either_type allowed first a.now second b.now) }
 {
     if allowed {
@@ -234,7 +251,7 @@ fn comparison_type(
     a: &ExprType,
     second: Place,
     b: &ExprType,
-) -> Result<ExprType, CheckFault>
+) -> Result<Boxed<ExprType>, CheckFault>
     ensures { Agrees result (spec.comparison_type records.now first a.now second b.now) }
 {
     if !may_compare(alloc, records, a)? {
@@ -243,22 +260,23 @@ fn comparison_type(
     if !are_compared(alloc, records, a, b)? {
         return Err(mismatch(second));
     }
-    Ok(ExprType::Of(CsType::Bool))
+    of_type(alloc, CsType::Bool)
 }
 
 /// An operator that takes one type on both sides.
 #[tactic(auto, unfolding(cs_rules::specs::Operators::plain_type))]
 fn plain_type(
+    alloc: Global,
     op: BinaryOp,
     first: Place,
     a: &ExprType,
     second: Place,
     b: &ExprType,
-) -> Result<ExprType, CheckFault>
+) -> Result<Boxed<ExprType>, CheckFault>
     ensures { Agrees result (spec.plain_type op first a.now second b.now) }
 {
     match taken_type(op) {
-        Some(taken) => alike(&taken, given_type(op), first, a, second, b),
+        Some(taken) => alike(alloc, &taken, given_type(op), first, a, second, b),
         None => Err(mismatch(first)),
     }
 }
@@ -273,16 +291,16 @@ pub fn binary_type(
     a: &ExprType,
     second: Place,
     b: &ExprType,
-) -> Result<ExprType, CheckFault>
+) -> Result<Boxed<ExprType>, CheckFault>
     ensures { Agrees result (spec.binary_type records.now op first a.now second b.now) }
 {
     match op {
-        BinaryOp::Add => sum_type(first, a, second, b),
+        BinaryOp::Add => sum_type(alloc, first, a, second, b),
         BinaryOp::Equal | BinaryOp::NotEqual => {
             comparison_type(alloc, records, first, a, second, b)
         }
         BinaryOp::Coalesce => either_type(alloc, is_nullable(a), first, a, second, b),
-        _ => plain_type(op, first, a, second, b),
+        _ => plain_type(alloc, op, first, a, second, b),
     }
 }
 

@@ -3,6 +3,7 @@ ghost use Rattle.std.specs.Prelude.{◌≡◌, ◌↔◌, IsTrue, IfOk, option_m
 ghost use Rattle.std.specs.Option.{option_copied};
 ghost use Rattle.cs_ast.specs.declared.cs_type.CsType.{out-CsType};
 ghost use Rattle.cs_rules.specs.declared.checked.ExprType.TheVariants.{Of};
+ghost use Rattle.cs_rules.specs.Judged.{fine};
 ghost use Rattle.cs_rules.specs.Types as spec;
 ghost use Rattle.cs_forms.specs.Agrees.{Agrees, AgreesBy};
 
@@ -174,15 +175,28 @@ pub fn wants(wanted: &CsType, place: Place, given: &ExprType) -> Result<(), Chec
     }
 }
 
+/// The code of an expression.
+pub fn code_of(x: Boxed<Checked>) -> Code
+    ensures { result ≡ x.code }
+{
+    x.into_inner().code
+}
+
+pub fn boxed_code(alloc: Global, x: Boxed<Checked>) -> Result<Boxed<Code>, AllocError>
+    ensures { IfOk result (λ code. code ≡ x.code) }
+{
+    Boxed::new(alloc, code_of(x))
+}
+
 /// The code of an expression that fits.
 #[tactic(auto, unfolding(cs_rules::specs::Types::fitting))]
-pub fn fitting(wanted: &CsType, x: Checked) -> Result<Code, CheckFault>
+pub fn fitting(wanted: &CsType, x: Boxed<Checked>) -> Result<Code, CheckFault>
     ensures { Agrees result (spec.fitting wanted.now x) }
 {
-    if fits(&x.expr_type, wanted) {
-        Ok(x.code)
+    if fits(&x.get().expr_type, wanted) {
+        Ok(code_of(x))
     } else {
-        Err(mismatch(x.place))
+        Err(mismatch(x.get().place))
     }
 }
 
@@ -198,14 +212,45 @@ pub fn own_type(place: Place, given: &ExprType) -> Result<&CsType, CheckFault>
 }
 
 /// An expression of a type of its own.
-pub fn checked(place: Place, code: Code, cs_type: CsType) -> Checked
-    ensures { result ≡ spec.checked place code cs_type }
+pub fn checked(
+    alloc: Global,
+    place: Place,
+    code: Code,
+    cs_type: CsType,
+) -> Result<Boxed<Checked>, CheckFault>
+    ensures { Agrees result (fine (spec.checked place code cs_type)) }
 {
-    Checked {
-        place,
-        code,
-        expr_type: ExprType::Of(cs_type),
-    }
+    let expr_type = ExprType::Of(cs_type);
+    let x = Boxed::new(
+        alloc,
+        Checked {
+            place,
+            code,
+            expr_type,
+        },
+    )?;
+    Ok(x)
+}
+
+/// An expression of this type.
+pub fn typed(
+    alloc: Global,
+    place: Place,
+    code: Code,
+    expr_type: Boxed<ExprType>,
+) -> Result<Boxed<Checked>, CheckFault>
+    ensures { Agrees result (fine (record { place = place; code = code; expr_type = expr_type })) }
+{
+    let expr_type = expr_type.into_inner();
+    let x = Boxed::new(
+        alloc,
+        Checked {
+            place,
+            code,
+            expr_type,
+        },
+    )?;
+    Ok(x)
 }
 
 /// Types that are equal to these.

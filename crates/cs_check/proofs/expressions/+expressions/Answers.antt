@@ -107,14 +107,9 @@ form-returns-in-Step t c =
     let form = ap (λ (kind : ExprKind). (uses_of_kind kind c.args.place).value (scope_of c.args.names.now)) c.in-Step.is ∙ step_value c.in-Step.op c.in-Step.target c.args.place (scope_of c.args.names.now) in
     rw form (search rules)
 
-pub form-returns-in_ok-clone-in-Text : goal.form-returns-in_ok-clone-in-Text
-form-returns-in_ok-clone-in-Text t c =
-    let form = ap (λ (kind : ExprKind). (uses_of_kind kind c.args.place).value (scope_of c.args.names.now)) c.in-Text.is ∙ text_value c.in-Text.text c.args.place (scope_of c.args.names.now) in
-    rw form (search rules)
-
-pub form-returns-in_err-clone-in-Text : goal.form-returns-in_err-clone-in-Text
-form-returns-in_err-clone-in-Text t c =
-    let form = ap (λ (kind : ExprKind). (uses_of_kind kind c.args.place).value (scope_of c.args.names.now)) c.in-Text.is ∙ text_value c.in-Text.text c.args.place (scope_of c.args.names.now) in
+pub form-returns-in-Text : goal.form-returns-in-Text
+form-returns-in-Text t c =
+    let form = ap (λ (kind : ExprKind). (uses_of_kind kind c.args.place).value (scope_of c.args.names.now)) c.in-Text.is ∙ text_value c.in-Text.it c.args.place (scope_of c.args.names.now) in
     rw form (search rules)
 
 -- each form as what is called
