@@ -87,7 +87,11 @@ fn callee(names: &Names<'_>, e: &Expr) -> Result<Boxed<Callee>, CheckFault>
 
 /// A value as what is called.
 #[cycle(expressions)]
-fn value_called(names: &Names<'_>, place: Place, kind: &ExprKind) -> Result<Boxed<Callee>, CheckFault>
+fn value_called(
+    names: &Names<'_>,
+    place: Place,
+    kind: &ExprKind,
+) -> Result<Boxed<Callee>, CheckFault>
     ensures { Agrees result (steps.value_called ((uses_of_kind kind.now place).value (scope_of names.now))) }
 {
     let x = form(names, place, kind)?;
@@ -143,7 +147,11 @@ fn pieces(names: &Names<'_>, parts: &[TextPart]) -> Result<Items<Code>, CheckFau
 
 #[cycle(expressions)]
 #[tactic(auto, unfolding(cs_rules::specs::Expressions::interpolated))]
-fn interpolated(names: &Names<'_>, parts: &[TextPart], place: Place) -> Result<Boxed<Checked>, CheckFault>
+fn interpolated(
+    names: &Names<'_>,
+    parts: &[TextPart],
+    place: Place,
+) -> Result<Boxed<Checked>, CheckFault>
     ensures { Agrees result (spec.interpolated (map piece_of parts.now) place (scope_of names.now)) }
 {
     let codes = pieces(names, parts)?;
@@ -152,7 +160,12 @@ fn interpolated(names: &Names<'_>, parts: &[TextPart], place: Place) -> Result<B
 
 #[cycle(expressions)]
 #[tactic(auto, unfolding(cs_rules::specs::Expressions::unary))]
-fn unary(names: &Names<'_>, op: UnaryOp, a: &Expr, place: Place) -> Result<Boxed<Checked>, CheckFault>
+fn unary(
+    names: &Names<'_>,
+    op: UnaryOp,
+    a: &Expr,
+    place: Place,
+) -> Result<Boxed<Checked>, CheckFault>
     ensures { Agrees result (spec.unary op (uses a.now).value place (scope_of names.now)) }
 {
     let x = value(names, a)?;
@@ -217,7 +230,12 @@ fn index(names: &Names<'_>, a: &Expr, i: &Expr, place: Place) -> Result<Boxed<Ch
 
 #[cycle(expressions)]
 #[tactic(auto, unfolding(cs_rules::specs::Expressions::member))]
-fn member(names: &Names<'_>, a: &Expr, name: &Ident, place: Place) -> Result<Boxed<Checked>, CheckFault>
+fn member(
+    names: &Names<'_>,
+    a: &Expr,
+    name: &Ident,
+    place: Place,
+) -> Result<Boxed<Checked>, CheckFault>
     ensures { Agrees result (spec.member (uses a.now).value name.now place (scope_of names.now)) }
 {
     let x = value(names, a)?;
@@ -328,7 +346,11 @@ fn replacements(
 /// The values of parts of what is no record.
 #[cycle(expressions)]
 #[tactic(auto, using(cs_rules::proofs::Laws::given_law))]
-fn of_no_record(names: &Names<'_>, parts: &[WithPart], wrong: Place) -> Result<Boxed<Checked>, CheckFault>
+fn of_no_record(
+    names: &Names<'_>,
+    parts: &[WithPart],
+    wrong: Place,
+) -> Result<Boxed<Checked>, CheckFault>
     ensures { Agrees result (spec.of_no_record (map given_of parts.now) wrong (scope_of names.now)) }
 {
     for part in parts {

@@ -36,11 +36,7 @@ fn declared_type(
 }
 
 /// The initial value of a local.
-fn initial(
-    names: &Names<'_>,
-    name: &Ident,
-    a: &Option<Expr>,
-) -> Result<Boxed<Checked>, CheckFault>
+fn initial(names: &Names<'_>, name: &Ident, a: &Option<Expr>) -> Result<Boxed<Checked>, CheckFault>
     ensures { Agrees result (spec.initial name.now (option_map (λ x. x.value) (option_map uses a.now)) (scope_of names.now)) }
 {
     match a {

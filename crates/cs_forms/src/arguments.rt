@@ -105,11 +105,18 @@ fn changed(
     ensures { Agrees result (fine (record { place = place; code = code_by.With x.code positions codes; expr_type = x.expr_type })) }
 {
     let Checked {
-        code, expr_type, ..
+        code,
+        expr_type,
+        ..
     } = x.into_inner();
     let expr_type = Boxed::new(alloc, expr_type)?;
     let record = Boxed::new(alloc, code)?;
-    typed(alloc, place, Code::With(record, positions, codes), expr_type)
+    typed(
+        alloc,
+        place,
+        Code::With(record, positions, codes),
+        expr_type,
+    )
 }
 
 /// A record with new values of parts.
@@ -124,7 +131,9 @@ pub fn with_replaced(
 {
     all_fit(replaced.wanted.as_slice(), replaced.values.as_slice())?;
     let Replaced {
-        positions, values, ..
+        positions,
+        values,
+        ..
     } = replaced;
     let codes = codes_of(alloc, values)?;
     changed(alloc, x, positions, codes, place)

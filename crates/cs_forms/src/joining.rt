@@ -206,7 +206,12 @@ fn new_code(
 {
     let number = narrowed(number)?;
     let record_name = name.name.clone()?;
-    checked(alloc, place, Code::New(number, codes), CsType::Rec(record_name))
+    checked(
+        alloc,
+        place,
+        Code::New(number, codes),
+        CsType::Rec(record_name),
+    )
 }
 
 /// `new N(..)` over arguments.

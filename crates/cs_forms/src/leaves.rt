@@ -48,11 +48,7 @@ pub fn text(alloc: Global, text: &Txt, place: Place) -> Result<Boxed<Checked>, C
 
 /// The type of `a ? b : c` by those of b and c.
 #[tactic(auto, unfolding(cs_rules::specs::Expressions::chosen_type, cs_rules::specs::Operators::either_type))]
-pub fn chosen_type(
-    alloc: Global,
-    x: &Checked,
-    y: &Checked,
-) -> Result<Boxed<ExprType>, CheckFault>
+pub fn chosen_type(alloc: Global, x: &Checked, y: &Checked) -> Result<Boxed<ExprType>, CheckFault>
     ensures { Agrees result (spec.chosen_type x.now y.now) }
 {
     let allowed = is_value(&x.expr_type);
@@ -90,11 +86,7 @@ pub fn items_of(place: Place, given: &ExprType) -> Result<&CsType, CheckFault>
 
 /// What a name behind a dot stands for.
 #[tactic(auto, unfolding(cs_rules::specs::Expressions::dotted))]
-pub fn dotted(
-    names: &Names<'_>,
-    x: &Checked,
-    name: &Ident,
-) -> Result<Boxed<Dotted>, CheckFault>
+pub fn dotted(names: &Names<'_>, x: &Checked, name: &Ident) -> Result<Boxed<Dotted>, CheckFault>
     ensures { Agrees result (spec.dotted (scope_of names.now) x.now name.now) }
 {
     let cs_type = own_type(x.place, &x.expr_type)?;
@@ -233,15 +225,16 @@ pub fn step(
     let variable = variable_of(target.place, &one.kind, one.place)?;
     let old = of_type(names.alloc, &one.cs_type)?;
     wants(&CsType::Int, target.place, old.get())?;
-    checked(names.alloc, place, Code::Step(variable, op), CsType::Nothing)
+    checked(
+        names.alloc,
+        place,
+        Code::Step(variable, op),
+        CsType::Nothing,
+    )
 }
 
 #[tactic(auto, unfolding(cs_rules::specs::Expressions::name_read))]
-pub fn name_read(
-    names: &Names<'_>,
-    name: &Txt,
-    place: Place,
-) -> Result<Boxed<Checked>, CheckFault>
+pub fn name_read(names: &Names<'_>, name: &Txt, place: Place) -> Result<Boxed<Checked>, CheckFault>
     ensures { Agrees result (spec.name_read name.now place (scope_of names.now)) }
 {
     let one = names.meant_at(place, name)?;
@@ -269,11 +262,7 @@ fn method(
 }
 
 #[tactic(auto, unfolding(cs_rules::specs::Expressions::callee_by_kind))]
-fn callee_by_kind(
-    alloc: Global,
-    place: Place,
-    one: &Named,
-) -> Result<Boxed<Callee>, CheckFault>
+fn callee_by_kind(alloc: Global, place: Place, one: &Named) -> Result<Boxed<Callee>, CheckFault>
     ensures { Agrees result (spec.callee_by_kind place one.now one.now.kind) }
 {
     match &one.kind {
@@ -290,11 +279,7 @@ fn callee_by_kind(
 }
 
 #[tactic(auto, unfolding(cs_rules::specs::Expressions::name_called))]
-pub fn name_called(
-    names: &Names<'_>,
-    name: &Txt,
-    place: Place,
-) -> Result<Boxed<Callee>, CheckFault>
+pub fn name_called(names: &Names<'_>, name: &Txt, place: Place) -> Result<Boxed<Callee>, CheckFault>
     ensures { Agrees result (spec.name_called name.now place (scope_of names.now)) }
 {
     let one = names.meant_at(place, name)?;

@@ -162,11 +162,7 @@ impl Names<'_> {
 
 /// A name as a value.
 #[tactic(auto, unfolding(cs_rules::specs::Names::value_of_name))]
-pub fn value_of_name(
-    alloc: Global,
-    place: Place,
-    one: &Named,
-) -> Result<Boxed<Checked>, CheckFault>
+pub fn value_of_name(alloc: Global, place: Place, one: &Named) -> Result<Boxed<Checked>, CheckFault>
     ensures { Agrees result (spec.value_of_name place one.now) }
 {
     let code = match &one.kind {
