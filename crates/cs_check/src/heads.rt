@@ -13,23 +13,24 @@ use cs_ast::{Code, CsType, Expr};
 use cs_forms::CheckFault;
 use cs_forms::joining::{Listed, items_and_code};
 use cs_forms::names::Names;
-use cs_forms::types::{code_of, fitting};
+use cs_forms::types::{boxed_code, fitting};
 use sqlite_items::Boxed;
 
 /// A condition.
 #[tactic(auto, unfolding(cs_rules::specs::Statements::condition))]
-pub fn condition(names: &Names<'_>, a: &Expr) -> Result<Code, CheckFault>
+pub fn condition(names: &Names<'_>, a: &Expr) -> Result<Boxed<Code>, CheckFault>
     ensures { Agrees result (spec.condition (uses a.now).value (scope_of names.now)) }
 {
     let x = value(names, a)?;
-    fitting(&CsType::Bool, x)
+    let code = fitting(&CsType::Bool, x)?;
+    Ok(Boxed::new(names.alloc, code)?)
 }
 
-fn stepped(names: &Names<'_>, a: &Expr) -> Result<Code, CheckFault>
+fn stepped(names: &Names<'_>, a: &Expr) -> Result<Boxed<Code>, CheckFault>
     ensures { Agrees result (spec.stepped (uses a.now).value (scope_of names.now)) }
 {
     let x = value(names, a)?;
-    Ok(code_of(x))
+    Ok(boxed_code(names.alloc, x)?)
 }
 
 /// A condition, where there is one.
@@ -41,10 +42,7 @@ fn optional_condition(
 {
     match a {
         None => Ok(None),
-        Some(a) => {
-            let code = condition(names, a)?;
-            Ok(Some(Boxed::new(names.alloc, code)?))
-        }
+        Some(a) => Ok(Some(condition(names, a)?)),
     }
 }
 
@@ -53,10 +51,7 @@ fn optional_step(names: &Names<'_>, a: &Option<Expr>) -> Result<Option<Boxed<Cod
 {
     match a {
         None => Ok(None),
-        Some(a) => {
-            let code = stepped(names, a)?;
-            Ok(Some(Boxed::new(names.alloc, code)?))
-        }
+        Some(a) => Ok(Some(stepped(names, a)?)),
     }
 }
 

@@ -8,7 +8,6 @@
 mod expressions;
 mod heads;
 mod locals;
-mod statement_codes;
 mod statements;
 mod whole;
 

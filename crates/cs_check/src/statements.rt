@@ -7,9 +7,8 @@ ghost use Rattle.cs_forms.specs.Agrees.{Agrees, AgreesBy};
 ghost use Rattle.cs_forms.specs.Views.{scope_of};
 
 use crate::expressions::value;
-use crate::heads::{condition, heading, list_of};
+use crate::heads::{Head, condition, heading, list_of};
 use crate::locals::local;
-use crate::statement_codes::{for_code, for_each_code, if_code, while_code};
 use cs_ast::{Code, CsType, Expr, Ident, Section, Stmt, StmtKind};
 use cs_forms::CheckFault;
 use cs_forms::fault::mismatch;
@@ -134,13 +133,14 @@ fn enclosed(names: &mut Names<'_>, body: &[Stmt]) -> Result<Items<Code>, CheckFa
 
 /// A statement in a scope of its own.
 #[cycle(statements)]
-fn alone(names: &mut Names<'_>, one: &Stmt) -> Result<Code, CheckFault>
+fn alone(names: &mut Names<'_>, one: &Stmt) -> Result<Boxed<Code>, CheckFault>
     ensures does { Agrees result (spec.alone (statement_of one.now) (scope_of names.old)) }
     ensures scope { names.new.scope ≡ names.old.scope }
     ensures same { OnOk result (names.new.locals ≡ names.old.locals) }
 {
     let depth = names.locals.len();
     let code = statement(names, one)?;
+    let code = Boxed::new(names.alloc, code)?;
     cut(names, depth);
     Ok(code)
 }
@@ -156,10 +156,7 @@ fn optional_alone(
 {
     match one {
         None => Ok(None),
-        Some(one) => {
-            let code = alone(names, one.get())?;
-            Ok(Some(Boxed::new(names.alloc, code)?))
-        }
+        Some(one) => Ok(Some(alone(names, one.get())?)),
     }
 }
 
@@ -190,7 +187,7 @@ fn if_else(
     let code = condition(names, test)?;
     let first = alone(names, yes)?;
     let second = optional_alone(names, no)?;
-    Ok(if_code(names.alloc, code, first, second)?)
+    Ok(Code::If(code, first, second))
 }
 
 #[cycle(statements)]
@@ -203,7 +200,7 @@ fn while_loop(names: &mut Names<'_>, body: &Stmt, test: &Expr) -> Result<Code, C
 {
     let code = condition(names, test)?;
     let turn = alone(names, body)?;
-    Ok(while_code(names.alloc, code, turn)?)
+    Ok(Code::While(code, turn))
 }
 
 /// The start of a `for`.
@@ -245,7 +242,8 @@ fn for_loop(
     let head = heading(names, first, test, step)?;
     let turn = alone(names, body)?;
     cut(names, depth);
-    Ok(for_code(names.alloc, head, turn)?)
+    let Head { start, test, step } = head.into_inner();
+    Ok(Code::For(start, test, step, turn))
 }
 
 #[cycle(statements)]
@@ -263,11 +261,12 @@ fn for_each(
 {
     names.is_new(name)?;
     let Listed { item, code } = list_of(names, list)?;
+    let code = Boxed::new(names.alloc, code)?;
     let depth = names.locals.len();
     names.declare(&name.name, item)?;
     let turn = alone(names, body)?;
     cut(names, depth);
-    Ok(for_each_code(names.alloc, code, turn)?)
+    Ok(Code::ForEach(code, turn))
 }
 
 /// A section of a `switch` that decides by a type.
