@@ -343,9 +343,17 @@ fn replacements(
     Ok(replaced)
 }
 
-/// The values of parts of what is no record.
+/// The value of a part.
 #[cycle(expressions)]
 #[tactic(auto, using(cs_rules::proofs::Laws::given_law))]
+fn given(names: &Names<'_>, part: &WithPart) -> Result<Boxed<Checked>, CheckFault>
+    ensures { Agrees result ((given_of part.now).value (scope_of names.now)) }
+{
+    value(names, &part.value)
+}
+
+/// The values of parts of what is no record.
+#[cycle(expressions)]
 fn of_no_record(
     names: &Names<'_>,
     parts: &[WithPart],
@@ -354,7 +362,7 @@ fn of_no_record(
     ensures { Agrees result (spec.of_no_record (map given_of parts.now) wrong (scope_of names.now)) }
 {
     for part in parts {
-        value(names, &part.value)?;
+        given(names, part)?;
     }
     Err(mismatch(wrong))
 }

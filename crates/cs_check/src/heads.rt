@@ -1,6 +1,6 @@
 // What stands in the brackets of statements.
-ghost use Rattle.std.specs.Prelude.{option_map};
-ghost use Rattle.cs_rules.specs.Judged.{if_there};
+ghost use Rattle.std.specs.Prelude.{option_map, if◌then◌else◌};
+ghost use Rattle.cs_rules.specs.Judged.{fine, if_there, mismatch as wrong};
 ghost use Rattle.cs_rules.specs.Statements as spec;
 ghost use Rattle.cs_rules.specs.Trees.{uses};
 ghost use Rattle.cs_forms.specs.Agrees.{Agrees, AgreesBy};
@@ -11,9 +11,12 @@ ghost use Rattle.cs_check.specs.Views.{head_view};
 use crate::expressions::value;
 use cs_ast::{Code, CsType, Expr};
 use cs_forms::CheckFault;
+use cs_forms::fault::mismatch;
 use cs_forms::joining::{Listed, items_and_code};
+use cs_forms::labels::decides;
 use cs_forms::names::Names;
 use cs_forms::types::{boxed_code, fitting};
+use cs_rules::{Checked, ExprType};
 use sqlite_items::Boxed;
 
 /// A condition.
@@ -84,4 +87,15 @@ pub fn heading(
     let step = optional_step(names, step)?;
     let head = Boxed::new(names.alloc, Head { start, test, step })?;
     Ok(head)
+}
+
+/// The type by which a `switch` decides.
+pub fn deciding(x: &Checked) -> Result<&ExprType, CheckFault>
+    ensures { AgreesBy (λ decided. decided.now) result (if spec.decides x.now.expr_type then fine x.now.expr_type else wrong x.now.place) }
+{
+    if decides(&x.expr_type) {
+        Ok(&x.expr_type)
+    } else {
+        Err(mismatch(x.place))
+    }
 }

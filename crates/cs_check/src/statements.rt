@@ -7,13 +7,13 @@ ghost use Rattle.cs_forms.specs.Agrees.{Agrees, AgreesBy};
 ghost use Rattle.cs_forms.specs.Views.{scope_of};
 
 use crate::expressions::value;
-use crate::heads::{Head, condition, heading, list_of};
+use crate::heads::{Head, condition, deciding, heading, list_of};
 use crate::locals::local;
 use cs_ast::{Code, CsType, Expr, Ident, Section, Stmt, StmtKind};
 use cs_forms::CheckFault;
 use cs_forms::fault::mismatch;
 use cs_forms::joining::Listed;
-use cs_forms::labels::{constants, decides, has_default};
+use cs_forms::labels::{constants, has_default};
 use cs_forms::names::Names;
 use cs_forms::types::{boxed_code, fits, fitting};
 use cs_rules::ExprType;
@@ -310,10 +310,8 @@ fn switch(names: &mut Names<'_>, all: &[Section], a: &Expr) -> Result<Code, Chec
     ensures kept { OnOk result (take (length names.old.locals) names.new.locals ≡ names.old.locals) }
 {
     let x = value(names, a)?;
-    if !decides(&x.get().expr_type) {
-        return Err(mismatch(x.get().place));
-    }
-    let codes = sections(names, &x.get().expr_type, all)?;
+    let decided = deciding(x.get())?;
+    let codes = sections(names, decided, all)?;
     let code = boxed_code(names.alloc, x)?;
     Ok(Code::Switch(code, codes))
 }

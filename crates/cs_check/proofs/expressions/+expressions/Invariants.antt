@@ -82,6 +82,9 @@ decreases-replacements l = 8 * goal.size-replacements l + 4
 abbrev pub decreases-of_no_record : goal.decreases-of_no_record
 decreases-of_no_record l = 8 * goal.size-of_no_record l + 4
 
+abbrev pub decreases-given : goal.decreases-given
+decreases-given l = 8 * goal.size-given l + 3
+
 abbrev pub decreases-with_record : goal.decreases-with_record
 decreases-with_record l = 8 * goal.size-with_record l + 5
 
