@@ -1,0 +1,16 @@
+//! Checks C# code against the rules of its names and types, and turns names into numbers.
+//!
+//! [`check_expr`] and [`check_body`] answer the code of a tree in a scope, with its type for an expression, exactly where
+//! no rule is broken in it, and else the first broken rule with its place. Lambdas, templates and whole components are
+//! for the layers above; that accepted code is never stuck when it runs is a law elsewhere.
+#![tactic(auto)]
+
+mod expressions;
+mod heads;
+mod locals;
+mod statements;
+mod whole;
+
+pub use cs_forms::CheckFault;
+pub use cs_rules::{Checked, ExprType, Rule};
+pub use whole::{check_body, check_expr};
