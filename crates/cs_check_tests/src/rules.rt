@@ -135,7 +135,7 @@ struct Case {
     column: u32,
 }
 
-fn case(alloc: Global, statement: Stmt, rule: Rule, column: u32) -> Result<Case, Oom> {
+fn broken(alloc: Global, statement: Stmt, rule: Rule, column: u32) -> Result<Case, Oom> {
     let mut body = Items::new(alloc);
     body.push(statement)?;
     Ok(Case { body, rule, column })
@@ -144,49 +144,49 @@ fn case(alloc: Global, statement: Stmt, rule: Rule, column: u32) -> Result<Case,
 fn of_names(alloc: Global, cases: &mut Vec<Case>) -> Result<(), Oom> {
     // var s = 1; z; Z x = 1; var x;
     let again = local(alloc, None, "s", Some(int(9)))?;
-    cases.push(case(alloc, again, Rule::DuplicateName, 5)?)?;
+    cases.push(broken(alloc, again, Rule::DuplicateName, 5)?)?;
     let nothing = perform(name(alloc, 3, "z")?);
-    cases.push(case(alloc, nothing, Rule::UnknownName, 3)?)?;
+    cases.push(broken(alloc, nothing, Rule::UnknownName, 3)?)?;
     let written = TypeExpr {
         place: at(1),
         kind: TypeKind::Named(Txt::from_str(alloc, "Z")?),
     };
     let untyped = local(alloc, Some(written), "x", Some(int(9)))?;
-    cases.push(case(alloc, untyped, Rule::UnknownType, 1)?)?;
+    cases.push(broken(alloc, untyped, Rule::UnknownType, 1)?)?;
     let unset = local(alloc, None, "x", None)?;
-    cases.push(case(alloc, unset, Rule::NotAssigned, 5)?)?;
+    cases.push(broken(alloc, unset, Rule::NotAssigned, 5)?)?;
     Ok(())
 }
 
 fn of_types(alloc: Global, cases: &mut Vec<Case>) -> Result<(), Oom> {
     // 1 + true; true - 1; 1 == true; F(); F(true); return 1; where nothing is wanted
     let second = binary(alloc, BinaryOp::Add, int(1), truth(5))?;
-    cases.push(case(alloc, perform(second), Rule::TypeMismatch, 5)?)?;
+    cases.push(broken(alloc, perform(second), Rule::TypeMismatch, 5)?)?;
     let first = binary(alloc, BinaryOp::Subtract, truth(1), int(8))?;
-    cases.push(case(alloc, perform(first), Rule::TypeMismatch, 1)?)?;
+    cases.push(broken(alloc, perform(first), Rule::TypeMismatch, 1)?)?;
     let pair = binary(alloc, BinaryOp::Equal, int(1), truth(6))?;
-    cases.push(case(alloc, perform(pair), Rule::TypeMismatch, 6)?)?;
+    cases.push(broken(alloc, perform(pair), Rule::TypeMismatch, 6)?)?;
     let none = call(alloc, None)?;
-    cases.push(case(alloc, perform(none), Rule::TypeMismatch, 1)?)?;
+    cases.push(broken(alloc, perform(none), Rule::TypeMismatch, 1)?)?;
     let wrong = call(alloc, Some(truth(3)))?;
-    cases.push(case(alloc, perform(wrong), Rule::TypeMismatch, 3)?)?;
+    cases.push(broken(alloc, perform(wrong), Rule::TypeMismatch, 3)?)?;
     let returned = Stmt {
         place: at(1),
         kind: StmtKind::Return(Some(int(8))),
     };
-    cases.push(case(alloc, returned, Rule::TypeMismatch, 8)?)?;
+    cases.push(broken(alloc, returned, Rule::TypeMismatch, 8)?)?;
     Ok(())
 }
 
 fn of_changes(alloc: Global, cases: &mut Vec<Case>) -> Result<(), Oom> {
     // P = 1; P = 1 + true; n = true;
     let parameter = assignment(alloc, "P", int(5))?;
-    cases.push(case(alloc, perform(parameter), Rule::ParameterAssigned, 1)?)?;
+    cases.push(broken(alloc, perform(parameter), Rule::ParameterAssigned, 1)?)?;
     let value = binary(alloc, BinaryOp::Add, int(5), truth(9))?;
     let part = assignment(alloc, "P", value)?;
-    cases.push(case(alloc, perform(part), Rule::TypeMismatch, 9)?)?;
+    cases.push(broken(alloc, perform(part), Rule::TypeMismatch, 9)?)?;
     let changed = assignment(alloc, "n", truth(5))?;
-    cases.push(case(alloc, perform(changed), Rule::TypeMismatch, 5)?)?;
+    cases.push(broken(alloc, perform(changed), Rule::TypeMismatch, 5)?)?;
     Ok(())
 }
 
