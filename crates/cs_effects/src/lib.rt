@@ -15,4 +15,6 @@ mod spreading;
 mod statements;
 
 pub use deed::Deed;
+pub use expressions::does as expression_does;
 pub use methods::effects;
+pub use statements::{body as body_does, statement as statement_does};

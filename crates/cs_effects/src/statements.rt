@@ -46,7 +46,7 @@ fn optional(deed: &Deed, locals: &[Txt], a: &Option<Expr>) -> bool
 /// Whether a statement does it.
 #[cycle(statements)]
 #[tactic(auto, using(crate::proofs::DeedLaws::statement_law))]
-fn statement(alloc: Global, deed: &Deed, locals: &[Txt], one: &Stmt) -> Result<bool, Oom>
+pub fn statement(alloc: Global, deed: &Deed, locals: &[Txt], one: &Stmt) -> Result<bool, Oom>
     ensures { IfOk result (λ yes. yes ≡ (spec.of_statement deed.now one.now).done locals.now) }
 {
     form(alloc, deed, locals, &one.kind)

@@ -6,3 +6,5 @@ pub mod Wires
 pub mod Births
 pub mod Turning
 pub mod Tallies
+pub mod Components
+pub mod Handlers

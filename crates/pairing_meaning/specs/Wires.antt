@@ -31,15 +31,15 @@ abbrev pub names_of : List ItemAttribute → Names
 names_of attributes = all_set (wire_attributes attributes)
 
 abbrev pub wires_layer : Item-F (List WireNode) → List WireNode
-wires_layer (Element number name key attributes children) = wire.Element name (wire_attributes attributes) (flat_map (λ child. child) children) ∷ []
+wires_layer (Element number name key attributes children) = wire.Element name (wire_attributes attributes) (flat_map (λ wires. wires) children) ∷ []
 wires_layer (Text number text) = wire.Text text ∷ []
 wires_layer (Markup number text) = wire.Markup text ∷ []
 wires_layer (Component number order made key parameters) = wire.Component order ∷ []
-wires_layer (Region number key children) = flat_map (λ child. child) children
+wires_layer (Region number key children) = flat_map (λ wires. wires) children
 
 abbrev pub wires_in : Item → List WireNode
 wires_in = fold-Item (List WireNode) wires_layer
 
 -- one for each slot
 abbrev pub wires_of : List Item → List WireNode
-wires_of items = flat_map wires_in items
+wires_of items = flat_map (λ wires. wires) (map wires_in items)

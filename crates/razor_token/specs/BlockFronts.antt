@@ -14,7 +14,7 @@ use Rattle.razor_token.specs.declared.context.Point.TheVariants as point
 use Rattle.razor_token.specs.declared.found.CodeFront.{CodeFront}
 use Rattle.razor_token.specs.declared.found.Found.{Found}
 use Rattle.razor_token.specs.declared.piece.PieceKind.TheVariants as k
-use Rattle.razor_token.specs.declared.runs.Kind.TheVariants as r
+use Rattle.razor_token.specs.declared.runs.RunKind.TheVariants as r
 use Rattle.razor_token.specs.Runs.{run, begins}
 use Rattle.razor_token.specs.Contexts.{stays, leaves, enters, becomes, becomes_both}
 use Rattle.razor_token.specs.Pieces.{piece}

@@ -7,8 +7,8 @@ use Rattle.razor_token.specs.declared.context.Context.{Context}
 use Rattle.razor_token.specs.declared.context.Context.TheVariants as x
 use Rattle.razor_token.specs.declared.found.Found.{Found}
 use Rattle.razor_token.specs.declared.piece.PieceKind.TheVariants as k
-use Rattle.razor_token.specs.declared.runs.Kind.{Kind}
-use Rattle.razor_token.specs.declared.runs.Kind.TheVariants as r
+use Rattle.razor_token.specs.declared.runs.RunKind.{RunKind}
+use Rattle.razor_token.specs.declared.runs.RunKind.TheVariants as r
 use Rattle.razor_token.specs.Runs.{run, begins, count_to}
 use Rattle.razor_token.specs.Tags.{is_component, is_void}
 use Rattle.razor_token.specs.Contexts.{stays, leaves, enters, enters_both, becomes}
@@ -107,7 +107,7 @@ is_line (Some x.Line) = true
 is_line _ = false
 
 -- the characters of literal text there
-abbrev pub content_run : Option Context → Kind
+abbrev pub content_run : Option Context → RunKind
 content_run context = if is_line context then r.InLine else r.Content
 
 -- content of the innermost context or of the file, with this character before it

@@ -8,7 +8,7 @@ use Rattle.razor_token.specs.declared.context.Wanted.{Wanted}
 use Rattle.razor_token.specs.declared.context.Wanted.TheVariants as wanted
 use Rattle.razor_token.specs.declared.found.Found.{Found}
 use Rattle.razor_token.specs.declared.piece.PieceKind.TheVariants as k
-use Rattle.razor_token.specs.declared.runs.Kind.TheVariants as r
+use Rattle.razor_token.specs.declared.runs.RunKind.TheVariants as r
 use Rattle.razor_token.specs.Runs.{run, begins}
 use Rattle.razor_token.specs.Contexts.{stays, leaves, enters, becomes}
 use Rattle.razor_token.specs.Pieces.{piece}

@@ -3,11 +3,11 @@ use Rattle.std.specs.Prelude.{ℕ, ◌+◌, Bool, not, ◌&&◌, ◌||◌, ◌==
 use Rattle.cs_token.specs.declared.characters.Class.TheVariants as class
 use Rattle.cs_token.specs.Characters.{is_in}
 use Rattle.cs_token.specs.Reading.Runs.{strip}
-use Rattle.razor_token.specs.declared.runs.Kind.{Kind}
-use Rattle.razor_token.specs.declared.runs.Kind.TheVariants as r
+use Rattle.razor_token.specs.declared.runs.RunKind.{RunKind}
+use Rattle.razor_token.specs.declared.runs.RunKind.TheVariants as r
 
 -- of the kind
-abbrev pub is_of : Kind → ℕ → Bool
+abbrev pub is_of : RunKind → ℕ → Bool
 is_of r.TagName c = is_in class.Word c || (c == 45)
 is_of r.AttributeName c = is_in class.Word c || (c == 45) || (c == 58) || (c == 46)
 is_of r.Word c = is_in class.Word c
@@ -20,7 +20,7 @@ is_of r.SingleQuoted c = not ((c == 64) || (c == 39))
 is_of r.PageText c = not ((c == 34) || (c == 10))
 
 -- how many characters of the kind stand at the front
-abbrev pub run : Kind → List ℕ → ℕ
+abbrev pub run : RunKind → List ℕ → ℕ
 run kind [] = 0
 run kind (c ∷ text) = if is_of kind c then run kind text + 1 else 0
 

@@ -4,7 +4,7 @@ use Rattle.razor_token.specs.declared.context.Context.TheVariants as x
 use Rattle.razor_token.specs.declared.context.Change.{Change}
 use Rattle.razor_token.specs.declared.found.Found.{Found}
 use Rattle.razor_token.specs.declared.piece.PieceKind.TheVariants as k
-use Rattle.razor_token.specs.declared.runs.Kind.TheVariants as r
+use Rattle.razor_token.specs.declared.runs.RunKind.TheVariants as r
 use Rattle.razor_token.specs.Runs.{run, begins}
 use Rattle.razor_token.specs.Tags.{held_by}
 use Rattle.razor_token.specs.Contexts.{stays, leaves, enters, becomes}

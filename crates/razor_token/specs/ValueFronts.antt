@@ -14,8 +14,8 @@ use Rattle.razor_token.specs.declared.found.Found.{Found}
 use Rattle.razor_token.specs.declared.piece.PieceKind.TheVariants as k
 use Rattle.razor_token.specs.declared.piece.Quote.{Quote}
 use Rattle.razor_token.specs.declared.piece.Quote.TheVariants as q
-use Rattle.razor_token.specs.declared.runs.Kind.{Kind}
-use Rattle.razor_token.specs.declared.runs.Kind.TheVariants as r
+use Rattle.razor_token.specs.declared.runs.RunKind.{RunKind}
+use Rattle.razor_token.specs.declared.runs.RunKind.TheVariants as r
 use Rattle.razor_token.specs.Runs.{run, bare_run, begins}
 use Rattle.razor_token.specs.Contexts.{stays, leaves, enters, enters_both, becomes, becomes_both}
 use Rattle.razor_token.specs.Pieces.{piece, literal}
@@ -23,7 +23,7 @@ use Rattle.razor_token.specs.CodeFronts.{mark, code_front, code_in, where_it, ke
 use Rattle.razor_token.specs.ContentFronts.{is_within_word}
 
 -- the characters of literal text in these quotes
-abbrev pub quoted_run : Quote → Kind
+abbrev pub quoted_run : Quote → RunKind
 quoted_run q.Double = r.DoubleQuoted
 quoted_run q.Single = r.SingleQuoted
 

@@ -11,7 +11,7 @@ use crate::code::{code_front, code_piece};
 use crate::content::{is_code_word, shown, tag, word_behind};
 use crate::context::{Change, Context, Point};
 use crate::found::{Found, piece, text_of};
-use crate::runs::{Kind, begins, run};
+use crate::runs::{RunKind, begins, run};
 use cs_token::{Around, Sign, TokenKind, Word};
 use std::alloc::Global;
 use text_core::{Oom, Txt};
@@ -70,8 +70,8 @@ pub(crate) fn head(
 fn else_follows(text: &[char]) -> bool
     ensures { result ≡ else_follows text.now }
 {
-    let rest = &text[run(Kind::White, text)..];
-    begins(&['e', 'l', 's', 'e'], rest) && run(Kind::Word, rest) == 4
+    let rest = &text[run(RunKind::White, text)..];
+    begins(&['e', 'l', 's', 'e'], rest) && run(RunKind::Word, rest) == 4
 }
 
 /// A block ends before this text.

@@ -2,7 +2,7 @@
 ghost use Rattle.std.specs.Prelude.{◌≡◌, ◌+◌, ◌<◌, ◌≤◌, false, length, drop, codes, IfOk};
 ghost use Rattle.razor_token.specs.declared.context.Context.TheVariants as x;
 ghost use Rattle.razor_token.specs.declared.piece.PieceKind.TheVariants as k;
-ghost use Rattle.razor_token.specs.declared.runs.Kind.TheVariants as r;
+ghost use Rattle.razor_token.specs.declared.runs.RunKind.TheVariants as r;
 ghost use Rattle.razor_token.specs.Runs.{run, count_to};
 ghost use Rattle.razor_token.specs.Contexts.{stays, enters};
 ghost use Rattle.razor_token.specs.Pieces.{piece};
@@ -13,7 +13,7 @@ use crate::PieceKind;
 use crate::context::{Change, Context};
 use crate::directives::{implements_directive, is_directive, named_directive, page_directive};
 use crate::found::{Found, literal, piece, text_of};
-use crate::runs::{Kind, begins, count_to, run};
+use crate::runs::{RunKind, begins, count_to, run};
 use crate::tags::{is_component, is_void};
 use cs_token::Class;
 use std::alloc::Global;
@@ -95,7 +95,7 @@ pub(crate) fn word_behind(alloc: Global, text: &[char]) -> Result<Txt, Oom>
     ensures same { IfOk result (λ word. word ≡ word_behind text.now) }
 {
     let behind = &text[1..];
-    text_of(alloc, &behind[..run(Kind::Word, behind)])
+    text_of(alloc, &behind[..run(RunKind::Word, behind)])
 }
 
 /// The at sign before code with markup.
@@ -133,7 +133,7 @@ fn transition(alloc: Global, context: Option<Context>, text: &[char]) -> Result<
     if begins(&['{'], behind) {
         return Ok(code_at());
     }
-    let size = run(Kind::Word, behind);
+    let size = run(RunKind::Word, behind);
     let word = text_of(alloc, &behind[..size])?;
     Ok(word_at(context, &word, size, text))
 }
@@ -176,7 +176,7 @@ pub(crate) fn tag(alloc: Global, text: &[char]) -> Result<Option<Found>, Oom>
     ensures takes { IfOk result (λ found. Takes text.now found) }
 {
     let behind = &text[1..];
-    let count = run(Kind::TagName, behind);
+    let count = run(RunKind::TagName, behind);
     if count == 0 {
         return Ok(None);
     }
@@ -196,7 +196,7 @@ fn end_tag(alloc: Global, text: &[char]) -> Result<Option<Found>, Oom>
     ensures takes { IfOk result (λ found. Takes text.now found) }
 {
     let behind = &text[2..];
-    let count = run(Kind::TagName, behind);
+    let count = run(RunKind::TagName, behind);
     if count == 0 {
         return Ok(None);
     }
@@ -228,12 +228,12 @@ fn tag_sign(alloc: Global, context: Option<Context>, text: &[char]) -> Result<Op
 }
 
 /// The characters of literal text there.
-fn content_run(context: Option<Context>) -> Kind
+fn content_run(context: Option<Context>) -> RunKind
     ensures { result ≡ content_run context }
 {
     match context {
-        Some(Context::Line) => Kind::InLine,
-        _ => Kind::Content,
+        Some(Context::Line) => RunKind::InLine,
+        _ => RunKind::Content,
     }
 }
 

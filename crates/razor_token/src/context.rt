@@ -4,7 +4,7 @@ use cs_token::Sign;
 
 /// What kind of text stands at a place. At the top of a file, where no context is open, content stands.
 #[derive(Clone, Copy, Debug, PartialEq, Eq)]
-pub(crate) enum Context {
+pub enum Context {
     /// Content of an element or of a component's tag.
     Element,
     /// Content behind `@:`, to the line's end.
@@ -43,7 +43,7 @@ pub(crate) enum Context {
 
 /// What the value of an attribute of some name can be.
 #[derive(Clone, Copy, Debug, PartialEq, Eq)]
-pub(crate) enum Holds {
+pub enum Holds {
     /// Literal text and content expressions.
     Mixed,
     /// Code behind an at sign, or a text.
@@ -58,9 +58,12 @@ pub(crate) enum Holds {
 
 /// What a value is.
 #[derive(Clone, Copy, Debug, PartialEq, Eq)]
-pub(crate) enum Held {
+pub enum Held {
+    /// Literal text and content expressions.
     Mixed,
+    /// Code.
     Code,
+    /// A text.
     Text,
     /// Nothing more.
     Ended,
@@ -68,9 +71,10 @@ pub(crate) enum Held {
 
 /// Where in a statement of a block.
 #[derive(Clone, Copy, Debug, PartialEq, Eq)]
-pub(crate) enum Point {
+pub enum Point {
     /// A statement begins here.
     Begins,
+    /// Inside a statement.
     Within,
     /// Right behind the name `with`.
     BehindWith,
@@ -78,19 +82,25 @@ pub(crate) enum Point {
 
 /// What may come next in the line of a directive.
 #[derive(Clone, Copy, Debug, PartialEq, Eq)]
-pub(crate) enum Wanted {
+pub enum Wanted {
+    /// A name.
     Name,
     /// A dot, or the line's end.
     Dot,
+    /// The line's end.
     End,
 }
 
 /// What a piece changes of what is open: the innermost context is left, then these two are entered, the second innermost.
 /// A sign of C# may begin or end a part of an interpolated text.
 #[derive(Clone, Copy, Debug, PartialEq, Eq)]
-pub(crate) struct Change {
-    pub(crate) leaves: bool,
-    pub(crate) enters: Option<Context>,
-    pub(crate) within: Option<Context>,
-    pub(crate) sign: Option<Sign>,
+pub struct Change {
+    /// Whether the innermost context is left.
+    pub leaves: bool,
+    /// The context that is entered first.
+    pub enters: Option<Context>,
+    /// The context that is entered then, which is the innermost.
+    pub within: Option<Context>,
+    /// A sign of C# code.
+    pub sign: Option<Sign>,
 }

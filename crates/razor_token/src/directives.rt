@@ -7,7 +7,7 @@ use crate::PieceKind;
 use crate::code::{code_front, name_piece};
 use crate::context::{Change, Context, Wanted};
 use crate::found::{Found, piece};
-use crate::runs::{Kind, begins, run};
+use crate::runs::{RunKind, begins, run};
 use cs_token::{Sign, TokenKind};
 use std::alloc::Global;
 use text_core::{Oom, Txt};
@@ -27,7 +27,7 @@ fn with_blanks(count: usize, text: &[char]) -> usize
     ensures within { result ≤ length text.now }
     ensures least { count ≤ result }
 {
-    count + run(Kind::Blank, &text[count..])
+    count + run(RunKind::Blank, &text[count..])
 }
 
 /// Behind a directive's word, of so many characters: blanks and a name.
@@ -50,7 +50,7 @@ fn page_text(count: usize, text: &[char]) -> Option<Found>
     ensures same { result ≡ page_text count text.now }
     ensures takes { Takes text.now result }
 {
-    let end = count + run(Kind::PageText, &text[count..]);
+    let end = count + run(RunKind::PageText, &text[count..]);
     if begins(&['"'], &text[end..]) {
         let inside = Context::Directive(Wanted::End);
         piece(PieceKind::Directive, end + 1, Change::enters(inside))
@@ -81,7 +81,7 @@ fn implements_count(count: usize, text: &[char]) -> Option<Found>
 {
     let rest = &text[count..];
     let name = ['I', 'D', 'i', 's', 'p', 'o', 's', 'a', 'b', 'l', 'e'];
-    if begins(&name, rest) && run(Kind::Word, rest) == 11 {
+    if begins(&name, rest) && run(RunKind::Word, rest) == 11 {
         let end = count + 11;
         let whole = end + feed_count(&text[end..]);
         piece(PieceKind::Implements, whole, Change::stays())
@@ -116,7 +116,7 @@ fn line_end(text: &[char]) -> Option<Found>
     ensures same { result ≡ line_end text.now }
     ensures moves { Moves text.now result }
 {
-    let blanks = run(Kind::Blank, text);
+    let blanks = run(RunKind::Blank, text);
     let rest = &text[blanks..];
     if rest.is_empty() || begins(&['\n'], rest) {
         let end = blanks + feed_count(rest);

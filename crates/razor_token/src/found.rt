@@ -11,17 +11,22 @@ use text_core::{Oom, Txt};
 
 /// The piece at the front of a text: what it is, how many characters it has, and what it changes.
 #[derive(Debug, Drop)]
-pub(crate) struct Found {
-    pub(crate) kind: PieceKind,
-    pub(crate) count: usize,
-    pub(crate) change: Change,
+pub struct Found {
+    /// What it is.
+    pub kind: PieceKind,
+    /// How many characters it has.
+    pub count: usize,
+    /// What it changes of what is open.
+    pub change: Change,
 }
 
 /// A token of code at the front of a text, or none for white space and a comment, and how many characters it has.
 #[derive(Debug, Drop)]
-pub(crate) struct CodeFront {
-    pub(crate) token: Option<TokenKind>,
-    pub(crate) count: usize,
+pub struct CodeFront {
+    /// The token, or none.
+    pub token: Option<TokenKind>,
+    /// How many characters it has.
+    pub count: usize,
 }
 
 /// A piece of so many characters that changes this.

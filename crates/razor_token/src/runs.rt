@@ -7,7 +7,7 @@ use cs_token::{Class, after};
 
 /// A kind of characters, some of which stand together.
 #[derive(Clone, Copy, Debug, PartialEq, Eq)]
-pub(crate) enum Kind {
+pub enum RunKind {
     /// Of the name of a tag: letters, digits and `-`.
     TagName,
     /// Of the name of an attribute: `:` and `.` besides.
@@ -30,29 +30,29 @@ pub(crate) enum Kind {
     PageText,
 }
 
-impl Kind {
+impl RunKind {
     fn has(self, character: char) -> bool
         ensures { result ≡ is_of self character }
     {
         match self {
-            Kind::TagName => Class::Word.has(character) || character == '-',
-            Kind::AttributeName => {
+            RunKind::TagName => Class::Word.has(character) || character == '-',
+            RunKind::AttributeName => {
                 Class::Word.has(character) || matches!(character, '-' | ':' | '.')
             }
-            Kind::Word => Class::Word.has(character),
-            Kind::White => Class::White.has(character),
-            Kind::Blank => matches!(character, ' ' | '\t' | '\r'),
-            Kind::Content => !matches!(character, '@' | '<'),
-            Kind::InLine => !matches!(character, '@' | '<' | '\n'),
-            Kind::DoubleQuoted => !matches!(character, '@' | '"'),
-            Kind::SingleQuoted => !matches!(character, '@' | '\''),
-            Kind::PageText => !matches!(character, '"' | '\n'),
+            RunKind::Word => Class::Word.has(character),
+            RunKind::White => Class::White.has(character),
+            RunKind::Blank => matches!(character, ' ' | '\t' | '\r'),
+            RunKind::Content => !matches!(character, '@' | '<'),
+            RunKind::InLine => !matches!(character, '@' | '<' | '\n'),
+            RunKind::DoubleQuoted => !matches!(character, '@' | '"'),
+            RunKind::SingleQuoted => !matches!(character, '@' | '\''),
+            RunKind::PageText => !matches!(character, '"' | '\n'),
         }
     }
 }
 
 /// How many characters of the kind stand at the front.
-pub(crate) fn run(kind: Kind, text: &[char]) -> usize
+pub(crate) fn run(kind: RunKind, text: &[char]) -> usize
     ensures same { result ≡ run kind text.now }
     ensures within { result ≤ length text.now }
 {

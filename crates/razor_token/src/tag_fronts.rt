@@ -6,7 +6,7 @@ ghost use Rattle.razor_token.specs.TagFronts.{name_count, name_change, attribute
 use crate::PieceKind;
 use crate::context::{Change, Context};
 use crate::found::{Found, piece, text_of};
-use crate::runs::{Kind, begins, run};
+use crate::runs::{RunKind, begins, run};
 use crate::tags::held_by;
 use std::alloc::Global;
 use text_core::{Oom, Txt};
@@ -17,9 +17,9 @@ fn name_count(text: &[char]) -> usize
     ensures within { result ≤ length text.now }
 {
     if begins(&['@'], text) {
-        1 + run(Kind::AttributeName, &text[1..])
+        1 + run(RunKind::AttributeName, &text[1..])
     } else {
-        run(Kind::AttributeName, text)
+        run(RunKind::AttributeName, text)
     }
 }
 
@@ -61,7 +61,7 @@ pub(crate) fn start_tag(
     ensures same { IfOk result (λ found. found ≡ start_tag_at component void text.now) }
     ensures takes { IfOk result (λ found. Takes text.now found) }
 {
-    let white = run(Kind::White, text);
+    let white = run(RunKind::White, text);
     if white != 0 {
         return Ok(piece(PieceKind::Space, white, Change::stays()));
     }
@@ -88,7 +88,7 @@ pub(crate) fn end_tag(text: &[char]) -> Option<Found>
     ensures same { result ≡ end_tag_at text.now }
     ensures takes { Takes text.now result }
 {
-    let white = run(Kind::White, text);
+    let white = run(RunKind::White, text);
     if white != 0 {
         piece(PieceKind::Space, white, Change::stays())
     } else if begins(&['>'], text) {

@@ -11,19 +11,19 @@ use crate::code::{code_front, code_in, code_piece};
 use crate::content::{is_within_word, literal_at};
 use crate::context::{Change, Context, Held, Holds};
 use crate::found::{CodeFront, Found, literal, piece, text_of};
-use crate::runs::{Kind, are_bare, bare_run, begins, run};
+use crate::runs::{RunKind, are_bare, bare_run, begins, run};
 use crate::{PieceKind, Quote};
 use cs_token::{Around, Class};
 use std::alloc::Global;
 use text_core::Oom;
 
 /// The characters of literal text in these quotes.
-fn quoted_run(quote: Quote) -> Kind
+fn quoted_run(quote: Quote) -> RunKind
     ensures { result ≡ quoted_run quote }
 {
     match quote {
-        Quote::Double => Kind::DoubleQuoted,
-        Quote::Single => Kind::SingleQuoted,
+        Quote::Double => RunKind::DoubleQuoted,
+        Quote::Single => RunKind::SingleQuoted,
     }
 }
 

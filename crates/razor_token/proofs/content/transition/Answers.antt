@@ -3,7 +3,7 @@ use Rattle.std.proofs.lemmas.List.{take_all}
 use Rattle.std.specs.Prelude.{codes}
 use Rattle.std.specs.declared.option.Option.{Option}
 use Rattle.razor_token.specs.declared.context.Context.{Context}
-use Rattle.razor_token.specs.declared.runs.Kind.TheVariants as r
+use Rattle.razor_token.specs.declared.runs.RunKind.TheVariants as r
 use Rattle.razor_token.specs.Runs.{begins, run}
 use Rattle.razor_token.specs.ContentFronts.{word_behind, word_at, transition_at}
 use Rattle.razor_token.proofs.content.transition.Goals as goal
