@@ -1,0 +1,16 @@
+pub mod MatchedLemmas
+pub mod FilterLemmas
+pub mod StepLemmas
+pub mod ReachLemmas
+pub mod CountLemmas
+pub mod PairLemmas
+pub mod EntryLemmas
+pub mod NameLemmas
+pub mod ChangedLemmas
+pub mod ElementLemmas
+pub mod InheritLemmas
+pub mod SlotItemLemmas
+pub mod RenderingLemmas
+pub mod SlotPairLemmas
+pub mod ChangeLemmas
+pub mod TurnsLemmas
