@@ -1,0 +1,15 @@
+use Rattle.std.proofs.Common.{◌≡◌, sym, ap, ◌∙◌}
+use Rattle.std.specs.Prelude.{◌==◌}
+use Rattle.std.specs.List.{list_any}
+use Rattle.std.proofs.lemmas.List.{map-id}
+use Rattle.std.proofs.lemmas.Iterator.{YieldsList-from_chars}
+use Rattle.std.proofs.lemmas.Iterator.Consumers.{YieldsList-end}
+use Rattle.razor_print.proofs.quotes.contains.Goals as goal
+
+pub returns : goal.returns
+returns c =
+    let all : c.loop-character.yielded ≡ c.args.text.now =
+    sym (map-id c.loop-character.yielded)
+    ∙ (YieldsList-end (YieldsList-from_chars c.as_str.result.now c.as_str.utf8 cc) c.loop-character.yielded _ c.loop-character.yielded_by _ _ c.in-None.is c.next.ensures.steps).0
+    ∙ c.as_str.ensures.characters in
+    c.loop-character.invariant ∙ ap (λ text. list_any (λ x. x == c.args.wanted) text) all
