@@ -6,6 +6,7 @@ use Rattle.cs_ast.specs.declared.cs_type.CsType.{CsType}
 use Rattle.cs_ast.specs.declared.cs_type.TypeExpr.{TypeExpr}
 use Rattle.cs_ast.specs.declared.identifier.Ident.{Ident}
 use Rattle.cs_ast.specs.declared.scope.Scope.{Scope}
+use Rattle.text_core.specs.declared.place.Place.{Place}
 use Rattle.cs_rules.specs.declared.callee.Callee.{Callee}
 use Rattle.cs_rules.specs.declared.checked.Checked.{Checked}
 use Rattle.cs_rules.specs.Judged.{Judged, fine, if_there, ◌>>=◌}
@@ -14,7 +15,17 @@ use Rattle.cs_rules.specs.Written.{written}
 use Rattle.cs_rules.specs.Library.{callee_of_value}
 use Rattle.cs_rules.specs.Expressions.{Value}
 use Rattle.cs_rules.specs.Statements.{condition, stepped, initial, local_type}
+use Rattle.cs_forbidden.specs.declared.forbidden.Forbidden.{Forbidden}
+use Rattle.cs_forbidden.specs.Roots.{against, against_called}
+use Rattle.cs_forbidden.specs.Trees.{allowed}
 use Rattle.cs_forms.specs.Steps.{listed}
+
+-- a form that is fine is asked what its own code does
+abbrev pub asked : Forbidden → Place → Judged Checked → Judged Checked
+asked f place form = form >>= λ x. allowed (against f x.code) place x
+
+abbrev pub asked_callee : Forbidden → Place → Judged Callee → Judged Callee
+asked_callee f place form = form >>= λ it. allowed (against_called f it.called) place it
 
 -- a value as what is called
 abbrev pub value_called : Judged Checked → Judged Callee

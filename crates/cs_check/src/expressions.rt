@@ -2,25 +2,26 @@
 ghost use Rattle.std.specs.Prelude.{◌≡◌, map, Some};
 ghost use Rattle.cs_rules.specs.Judged.{each};
 ghost use Rattle.cs_rules.specs.Expressions as spec;
-ghost use Rattle.cs_rules.specs.Trees.{value_in, callee_in, uses, uses_of_kind, piece as piece_of, given as given_of};
+ghost use Rattle.cs_forbidden.specs.Trees.{value_in, uses};
+ghost use Rattle.cs_forbidden.specs.Forms.{value_of_kind, callee_of_kind, piece as piece_of, given as given_of};
 ghost use Rattle.cs_forms.specs.Agrees.{Agrees, AgreesBy};
 ghost use Rattle.cs_check.specs.Steps as steps;
-ghost use Rattle.cs_forms.specs.Views.{scope_of, declared, replacing_view, replaced_view};
+ghost use Rattle.cs_forms.specs.Views.{scope_of, forbidden_of, declared, replacing_view, replaced_view};
 
 use cs_ast::{
     AssignOp, BinaryOp, CastOp, Code, CsType, Expr, ExprKind, Ident, TextPart, UnaryOp, WithPart,
 };
 use cs_forms::CheckFault;
+use cs_forms::allowing::{allowed, allowed_callee};
 use cs_forms::arguments::{Replaced, Replacing, with_replaced};
+use cs_forms::callees::{callee_of_member, callee_of_value, static_callee};
 use cs_forms::fault::mismatch;
 use cs_forms::joining::{called, casted, chosen, constructed, indexed, joined};
 use cs_forms::leaves::{
     assigned, dotted, empty_list, known_part, known_record, name_called, name_read, null,
     record_of, static_member, step, text,
 };
-use cs_forms::library::{
-    callee_of_member, callee_of_value, null_member, static_callee, value_of_member,
-};
+use cs_forms::library::{null_member, value_of_member};
 use cs_forms::names::{Names, variable_of};
 use cs_forms::operators::{operator_of, shown, unary_type};
 use cs_forms::types::{checked, code_of, fitting};
@@ -29,19 +30,30 @@ use cs_rules::{Callee, Checked};
 use sqlite_items::{Boxed, Items};
 use text_core::Place;
 
+type Judged<T> = Result<Boxed<T>, CheckFault>;
+
 /// What an expression comes to as a value.
 #[cycle(expressions)]
-pub fn value(names: &Names<'_>, e: &Expr) -> Result<Boxed<Checked>, CheckFault>
-    ensures { Agrees result (value_in (scope_of names.now) e.now) }
+pub fn value(names: &Names<'_>, e: &Expr) -> Judged<Checked>
+    ensures { Agrees result (value_in (forbidden_of names.now) (scope_of names.now) e.now) }
 {
-    form(names, e.place, &e.kind)
+    asked(names, e.place, &e.kind)
 }
 
-/// The same by its form.
+/// The same: a form that is fine is asked what its own code does.
 #[cycle(expressions)]
-#[tactic(auto, using(cs_rules::proofs::Laws::lambda_value))]
-fn form(names: &Names<'_>, place: Place, kind: &ExprKind) -> Result<Boxed<Checked>, CheckFault>
-    ensures { Agrees result ((uses_of_kind kind.now place).value (scope_of names.now)) }
+fn asked(names: &Names<'_>, place: Place, kind: &ExprKind) -> Judged<Checked>
+    ensures { Agrees result (steps.asked (forbidden_of names.now) place (value_of_kind (forbidden_of names.now) kind.now place (scope_of names.now))) }
+{
+    let x = form(names, place, kind)?;
+    allowed(names, place, x)
+}
+
+/// A form by its parts.
+#[cycle(expressions)]
+#[tactic(auto, using(cs_forbidden::proofs::ExpressionLaws::lambda_value))]
+fn form(names: &Names<'_>, place: Place, kind: &ExprKind) -> Judged<Checked>
+    ensures { Agrees result (value_of_kind (forbidden_of names.now) kind.now place (scope_of names.now)) }
 {
     match kind {
         ExprKind::Int(number) => checked(names.alloc, place, Code::Int(*number), CsType::Int),
@@ -74,25 +86,38 @@ fn form(names: &Names<'_>, place: Place, kind: &ExprKind) -> Result<Boxed<Checke
 
 /// What an expression comes to as what is called.
 #[cycle(expressions)]
-fn callee(names: &Names<'_>, e: &Expr) -> Result<Boxed<Callee>, CheckFault>
-    ensures { Agrees result (callee_in (scope_of names.now) e.now) }
+fn callee(names: &Names<'_>, e: &Expr) -> Judged<Callee>
+    ensures { Agrees result ((uses (forbidden_of names.now) e.now).callee (scope_of names.now)) }
 {
-    match &e.kind {
-        ExprKind::Name(name) => name_called(names, name, e.place),
-        ExprKind::Member(a, name) => member_called(names, a.get(), name, e.place),
-        ExprKind::Static(of, name) => static_callee(names.alloc, e.place, *of, name),
-        _ => value_called(names, e.place, &e.kind),
+    asked_callee(names, e.place, &e.kind)
+}
+
+/// The same: what is fine is asked whether its use is forbidden.
+#[cycle(expressions)]
+fn asked_callee(names: &Names<'_>, place: Place, kind: &ExprKind) -> Judged<Callee>
+    ensures { Agrees result (steps.asked_callee (forbidden_of names.now) place (callee_of_kind (forbidden_of names.now) kind.now place (scope_of names.now))) }
+{
+    let it = called_form(names, place, kind)?;
+    allowed_callee(names, place, it)
+}
+
+/// A form as what is called, by its parts.
+#[cycle(expressions)]
+fn called_form(names: &Names<'_>, place: Place, kind: &ExprKind) -> Judged<Callee>
+    ensures { Agrees result (callee_of_kind (forbidden_of names.now) kind.now place (scope_of names.now)) }
+{
+    match kind {
+        ExprKind::Name(name) => name_called(names, name, place),
+        ExprKind::Member(a, name) => member_called(names, a.get(), name, place),
+        ExprKind::Static(of, name) => static_callee(names.alloc, place, *of, name),
+        _ => value_called(names, place, kind),
     }
 }
 
 /// A value as what is called.
 #[cycle(expressions)]
-fn value_called(
-    names: &Names<'_>,
-    place: Place,
-    kind: &ExprKind,
-) -> Result<Boxed<Callee>, CheckFault>
-    ensures { Agrees result (steps.value_called ((uses_of_kind kind.now place).value (scope_of names.now))) }
+fn value_called(names: &Names<'_>, place: Place, kind: &ExprKind) -> Judged<Callee>
+    ensures { Agrees result (steps.value_called (value_of_kind (forbidden_of names.now) kind.now place (scope_of names.now))) }
 {
     let x = form(names, place, kind)?;
     callee_of_value(names.alloc, x)
@@ -102,7 +127,7 @@ fn value_called(
 #[cycle(expressions)]
 #[tactic(auto, using(cs_forms::proofs::FrontLemmas::front_none, cs_forms::proofs::FrontLemmas::front_more, cs_forms::proofs::FrontLemmas::front_end))]
 fn values(names: &Names<'_>, arguments: &[Expr]) -> Result<Vec<Boxed<Checked>>, CheckFault>
-    ensures { AgreesBy (λ xs. xs.items) result (each (λ argument. argument (scope_of names.now)) (map (λ x. x.value) (map uses arguments.now))) }
+    ensures { AgreesBy (λ xs. xs.items) result (each (λ argument. argument (scope_of names.now)) (map (λ x. x.value) (map (uses (forbidden_of names.now)) arguments.now))) }
 {
     let mut xs = Vec::new(names.alloc);
     for argument in arguments {
@@ -114,7 +139,7 @@ fn values(names: &Names<'_>, arguments: &[Expr]) -> Result<Vec<Boxed<Checked>>, 
 #[cycle(expressions)]
 #[tactic(auto, unfolding(cs_rules::specs::Expressions::hole))]
 fn hole(names: &Names<'_>, a: &Expr) -> Result<Code, CheckFault>
-    ensures { Agrees result (spec.hole (uses a.now).value (scope_of names.now)) }
+    ensures { Agrees result (spec.hole (uses (forbidden_of names.now) a.now).value (scope_of names.now)) }
 {
     let x = value(names, a)?;
     shown(x.get().place, &x.get().expr_type)?;
@@ -123,9 +148,9 @@ fn hole(names: &Names<'_>, a: &Expr) -> Result<Code, CheckFault>
 
 /// A piece of an interpolated text.
 #[cycle(expressions)]
-#[tactic(auto, using(cs_rules::proofs::Laws::literal_piece, cs_rules::proofs::Laws::hole_piece))]
+#[tactic(auto, using(cs_forbidden::proofs::FormLaws::literal_piece, cs_forbidden::proofs::FormLaws::hole_piece))]
 fn piece(names: &Names<'_>, part: &TextPart) -> Result<Code, CheckFault>
-    ensures { Agrees result (piece_of part.now (scope_of names.now)) }
+    ensures { Agrees result (piece_of (forbidden_of names.now) part.now (scope_of names.now)) }
 {
     match part {
         TextPart::Literal(text) => Ok(Code::Piece(text.clone()?)),
@@ -136,7 +161,7 @@ fn piece(names: &Names<'_>, part: &TextPart) -> Result<Code, CheckFault>
 #[cycle(expressions)]
 #[tactic(auto, using(cs_forms::proofs::FrontLemmas::front_none, cs_forms::proofs::FrontLemmas::front_more, cs_forms::proofs::FrontLemmas::front_end))]
 fn pieces(names: &Names<'_>, parts: &[TextPart]) -> Result<Items<Code>, CheckFault>
-    ensures { Agrees result (each (λ part. part (scope_of names.now)) (map piece_of parts.now)) }
+    ensures { Agrees result (each (λ part. part (scope_of names.now)) (map (piece_of (forbidden_of names.now)) parts.now)) }
 {
     let mut codes = Items::new(names.alloc);
     for part in parts {
@@ -147,12 +172,8 @@ fn pieces(names: &Names<'_>, parts: &[TextPart]) -> Result<Items<Code>, CheckFau
 
 #[cycle(expressions)]
 #[tactic(auto, unfolding(cs_rules::specs::Expressions::interpolated))]
-fn interpolated(
-    names: &Names<'_>,
-    parts: &[TextPart],
-    place: Place,
-) -> Result<Boxed<Checked>, CheckFault>
-    ensures { Agrees result (spec.interpolated (map piece_of parts.now) place (scope_of names.now)) }
+fn interpolated(names: &Names<'_>, parts: &[TextPart], place: Place) -> Judged<Checked>
+    ensures { Agrees result (spec.interpolated (map (piece_of (forbidden_of names.now)) parts.now) place (scope_of names.now)) }
 {
     let codes = pieces(names, parts)?;
     checked(names.alloc, place, Code::Interpolated(codes), CsType::Text)
@@ -160,13 +181,8 @@ fn interpolated(
 
 #[cycle(expressions)]
 #[tactic(auto, unfolding(cs_rules::specs::Expressions::unary))]
-fn unary(
-    names: &Names<'_>,
-    op: UnaryOp,
-    a: &Expr,
-    place: Place,
-) -> Result<Boxed<Checked>, CheckFault>
-    ensures { Agrees result (spec.unary op (uses a.now).value place (scope_of names.now)) }
+fn unary(names: &Names<'_>, op: UnaryOp, a: &Expr, place: Place) -> Judged<Checked>
+    ensures { Agrees result (spec.unary op (uses (forbidden_of names.now) a.now).value place (scope_of names.now)) }
 {
     let x = value(names, a)?;
     let code = fitting(&unary_type(op), x)?;
@@ -176,8 +192,8 @@ fn unary(
 
 #[cycle(expressions)]
 #[tactic(auto, unfolding(cs_rules::specs::Expressions::cast))]
-fn cast(names: &Names<'_>, op: CastOp, a: &Expr, place: Place) -> Result<Boxed<Checked>, CheckFault>
-    ensures { Agrees result (spec.cast op (uses a.now).value place (scope_of names.now)) }
+fn cast(names: &Names<'_>, op: CastOp, a: &Expr, place: Place) -> Judged<Checked>
+    ensures { Agrees result (spec.cast op (uses (forbidden_of names.now) a.now).value place (scope_of names.now)) }
 {
     let x = value(names, a)?;
     let code = fitting(&CsType::Text, x)?;
@@ -186,18 +202,12 @@ fn cast(names: &Names<'_>, op: CastOp, a: &Expr, place: Place) -> Result<Boxed<C
 
 #[cycle(expressions)]
 #[tactic(auto, unfolding(cs_rules::specs::Expressions::binary))]
-fn binary(
-    names: &Names<'_>,
-    op: BinaryOp,
-    a: &Expr,
-    b: &Expr,
-    place: Place,
-) -> Result<Boxed<Checked>, CheckFault>
-    ensures { Agrees result (spec.binary op (uses a.now).value (uses b.now).value place (scope_of names.now)) }
+fn binary(names: &Names<'_>, op: BinaryOp, a: &Expr, b: &Expr, place: Place) -> Judged<Checked>
+    ensures { Agrees result (spec.binary op (uses (forbidden_of names.now) a.now).value (uses (forbidden_of names.now) b.now).value place (scope_of names.now)) }
 {
     let x = value(names, a)?;
     let y = value(names, b)?;
-    let records = names.scope.records.as_slice();
+    let records = names.around.scope.records.as_slice();
     joined(names.alloc, records, op, x, y, place)
 }
 
@@ -209,8 +219,8 @@ fn conditional(
     a: &Expr,
     b: &Expr,
     place: Place,
-) -> Result<Boxed<Checked>, CheckFault>
-    ensures { Agrees result (spec.conditional (uses condition.now).value (uses a.now).value (uses b.now).value place (scope_of names.now)) }
+) -> Judged<Checked>
+    ensures { Agrees result (spec.conditional (uses (forbidden_of names.now) condition.now).value (uses (forbidden_of names.now) a.now).value (uses (forbidden_of names.now) b.now).value place (scope_of names.now)) }
 {
     let test = value(names, condition)?;
     let x = value(names, a)?;
@@ -220,8 +230,8 @@ fn conditional(
 
 #[cycle(expressions)]
 #[tactic(auto, unfolding(cs_rules::specs::Expressions::index))]
-fn index(names: &Names<'_>, a: &Expr, i: &Expr, place: Place) -> Result<Boxed<Checked>, CheckFault>
-    ensures { Agrees result (spec.index (uses a.now).value (uses i.now).value place (scope_of names.now)) }
+fn index(names: &Names<'_>, a: &Expr, i: &Expr, place: Place) -> Judged<Checked>
+    ensures { Agrees result (spec.index (uses (forbidden_of names.now) a.now).value (uses (forbidden_of names.now) i.now).value place (scope_of names.now)) }
 {
     let x = value(names, a)?;
     let y = value(names, i)?;
@@ -230,13 +240,8 @@ fn index(names: &Names<'_>, a: &Expr, i: &Expr, place: Place) -> Result<Boxed<Ch
 
 #[cycle(expressions)]
 #[tactic(auto, unfolding(cs_rules::specs::Expressions::member))]
-fn member(
-    names: &Names<'_>,
-    a: &Expr,
-    name: &Ident,
-    place: Place,
-) -> Result<Boxed<Checked>, CheckFault>
-    ensures { Agrees result (spec.member (uses a.now).value name.now place (scope_of names.now)) }
+fn member(names: &Names<'_>, a: &Expr, name: &Ident, place: Place) -> Judged<Checked>
+    ensures { Agrees result (spec.member (uses (forbidden_of names.now) a.now).value name.now place (scope_of names.now)) }
 {
     let x = value(names, a)?;
     let found = dotted(names, x.get(), name)?;
@@ -245,13 +250,8 @@ fn member(
 
 #[cycle(expressions)]
 #[tactic(auto, unfolding(cs_rules::specs::Expressions::member_or_null))]
-fn member_or_null(
-    names: &Names<'_>,
-    a: &Expr,
-    name: &Ident,
-    place: Place,
-) -> Result<Boxed<Checked>, CheckFault>
-    ensures { Agrees result (spec.member_or_null (uses a.now).value name.now place (scope_of names.now)) }
+fn member_or_null(names: &Names<'_>, a: &Expr, name: &Ident, place: Place) -> Judged<Checked>
+    ensures { Agrees result (spec.member_or_null (uses (forbidden_of names.now) a.now).value name.now place (scope_of names.now)) }
 {
     let x = value(names, a)?;
     let found = dotted(names, x.get(), name)?;
@@ -260,13 +260,8 @@ fn member_or_null(
 
 #[cycle(expressions)]
 #[tactic(auto, unfolding(cs_rules::specs::Expressions::member_called))]
-fn member_called(
-    names: &Names<'_>,
-    a: &Expr,
-    name: &Ident,
-    place: Place,
-) -> Result<Boxed<Callee>, CheckFault>
-    ensures { Agrees result (spec.member_called (uses a.now).value name.now place (scope_of names.now)) }
+fn member_called(names: &Names<'_>, a: &Expr, name: &Ident, place: Place) -> Judged<Callee>
+    ensures { Agrees result (spec.member_called (uses (forbidden_of names.now) a.now).value name.now place (scope_of names.now)) }
 {
     let x = value(names, a)?;
     let found = dotted(names, x.get(), name)?;
@@ -275,13 +270,8 @@ fn member_called(
 
 #[cycle(expressions)]
 #[tactic(auto, unfolding(cs_rules::specs::Expressions::call))]
-fn call(
-    names: &Names<'_>,
-    target: &Expr,
-    arguments: &[Expr],
-    place: Place,
-) -> Result<Boxed<Checked>, CheckFault>
-    ensures { Agrees result (spec.call (uses target.now).callee (map (λ x. x.value) (map uses arguments.now)) place (scope_of names.now)) }
+fn call(names: &Names<'_>, target: &Expr, arguments: &[Expr], place: Place) -> Judged<Checked>
+    ensures { Agrees result (spec.call (uses (forbidden_of names.now) target.now).callee (map (λ x. x.value) (map (uses (forbidden_of names.now)) arguments.now)) place (scope_of names.now)) }
 {
     let callee = callee(names, target)?;
     let xs = values(names, arguments)?;
@@ -290,28 +280,23 @@ fn call(
 
 #[cycle(expressions)]
 #[tactic(auto, unfolding(cs_rules::specs::Expressions::new))]
-fn new(
-    names: &Names<'_>,
-    name: &Ident,
-    arguments: &[Expr],
-    place: Place,
-) -> Result<Boxed<Checked>, CheckFault>
-    ensures { Agrees result (spec.new name.now (map (λ x. x.value) (map uses arguments.now)) place (scope_of names.now)) }
+fn new(names: &Names<'_>, name: &Ident, arguments: &[Expr], place: Place) -> Judged<Checked>
+    ensures { Agrees result (spec.new name.now (map (λ x. x.value) (map (uses (forbidden_of names.now)) arguments.now)) place (scope_of names.now)) }
 {
-    let found = known_record(names.scope.records.as_slice(), name)?;
+    let found = known_record(names.around.scope.records.as_slice(), name)?;
     let xs = values(names, arguments)?;
     constructed(names.alloc, place, found, xs, name)
 }
 
 /// The new value of a part.
 #[cycle(expressions)]
-#[tactic(auto, unfolding(cs_rules::specs::Expressions::replacing), using(cs_rules::proofs::Laws::given_law))]
+#[tactic(auto, unfolding(cs_rules::specs::Expressions::replacing), using(cs_forbidden::proofs::FormLaws::given_law))]
 fn replacing(
     names: &Names<'_>,
     part: &WithPart,
     found: Declared<'_>,
 ) -> Result<Replacing, CheckFault>
-    ensures { AgreesBy replacing_view result (spec.replacing (scope_of names.now) (declared found.entry) (given_of part.now)) }
+    ensures { AgreesBy replacing_view result (spec.replacing (scope_of names.now) (declared found.entry) (given_of (forbidden_of names.now) part.now)) }
 {
     let known = known_part(names.alloc, found.parts, &part.name)?;
     let value = value(names, &part.value)?;
@@ -329,7 +314,7 @@ fn replacements(
     parts: &[WithPart],
     found: Declared<'_>,
 ) -> Result<Replaced, CheckFault>
-    ensures { AgreesBy replaced_view result (spec.replacements (scope_of names.now) (declared found.entry) (map given_of parts.now)) }
+    ensures { AgreesBy replaced_view result (spec.replacements (scope_of names.now) (declared found.entry) (map (given_of (forbidden_of names.now)) parts.now)) }
 {
     let mut replaced = Replaced {
         positions: Items::new(names.alloc),
@@ -345,21 +330,17 @@ fn replacements(
 
 /// The value of a part.
 #[cycle(expressions)]
-#[tactic(auto, using(cs_rules::proofs::Laws::given_law))]
-fn given(names: &Names<'_>, part: &WithPart) -> Result<Boxed<Checked>, CheckFault>
-    ensures { Agrees result ((given_of part.now).value (scope_of names.now)) }
+#[tactic(auto, using(cs_forbidden::proofs::FormLaws::given_law))]
+fn given(names: &Names<'_>, part: &WithPart) -> Judged<Checked>
+    ensures { Agrees result ((given_of (forbidden_of names.now) part.now).value (scope_of names.now)) }
 {
     value(names, &part.value)
 }
 
 /// The values of parts of what is no record.
 #[cycle(expressions)]
-fn of_no_record(
-    names: &Names<'_>,
-    parts: &[WithPart],
-    wrong: Place,
-) -> Result<Boxed<Checked>, CheckFault>
-    ensures { Agrees result (spec.of_no_record (map given_of parts.now) wrong (scope_of names.now)) }
+fn of_no_record(names: &Names<'_>, parts: &[WithPart], wrong: Place) -> Judged<Checked>
+    ensures { Agrees result (spec.of_no_record (map (given_of (forbidden_of names.now)) parts.now) wrong (scope_of names.now)) }
 {
     for part in parts {
         given(names, part)?;
@@ -375,8 +356,8 @@ fn with_record(
     x: Boxed<Checked>,
     found: Declared<'_>,
     place: Place,
-) -> Result<Boxed<Checked>, CheckFault>
-    ensures { Agrees result (spec.with_parts (Some (declared found.entry)) (map given_of parts.now) x place (scope_of names.now)) }
+) -> Judged<Checked>
+    ensures { Agrees result (spec.with_parts (Some (declared found.entry)) (map (given_of (forbidden_of names.now)) parts.now) x place (scope_of names.now)) }
 {
     let replaced = replacements(names, parts, found)?;
     with_replaced(names.alloc, x, replaced, place)
@@ -384,16 +365,11 @@ fn with_record(
 
 #[cycle(expressions)]
 #[tactic(auto, unfolding(cs_rules::specs::Expressions::with_of))]
-fn with_of(
-    names: &Names<'_>,
-    a: &Expr,
-    parts: &[WithPart],
-    place: Place,
-) -> Result<Boxed<Checked>, CheckFault>
-    ensures { Agrees result (spec.with_of (uses a.now).value (map given_of parts.now) place (scope_of names.now)) }
+fn with_of(names: &Names<'_>, a: &Expr, parts: &[WithPart], place: Place) -> Judged<Checked>
+    ensures { Agrees result (spec.with_of (uses (forbidden_of names.now) a.now).value (map (given_of (forbidden_of names.now)) parts.now) place (scope_of names.now)) }
 {
     let x = value(names, a)?;
-    match record_of(names.scope.records.as_slice(), &x.get().expr_type) {
+    match record_of(names.around.scope.records.as_slice(), &x.get().expr_type) {
         None => of_no_record(names, parts, x.get().place),
         Some(found) => with_record(names, parts, x, found, place),
     }
@@ -407,8 +383,8 @@ fn assign(
     target: &Ident,
     a: &Expr,
     place: Place,
-) -> Result<Boxed<Checked>, CheckFault>
-    ensures { Agrees result (spec.assign op target.now (uses a.now).value place (scope_of names.now)) }
+) -> Judged<Checked>
+    ensures { Agrees result (spec.assign op target.now (uses (forbidden_of names.now) a.now).value place (scope_of names.now)) }
 {
     let one = names.meant_at(target.place, &target.name)?;
     let x = value(names, a)?;

@@ -2,10 +2,10 @@
 ghost use Rattle.std.specs.Prelude.{option_map, if◌then◌else◌};
 ghost use Rattle.cs_rules.specs.Judged.{fine, if_there, mismatch as wrong};
 ghost use Rattle.cs_rules.specs.Statements as spec;
-ghost use Rattle.cs_rules.specs.Trees.{uses};
+ghost use Rattle.cs_forbidden.specs.Trees.{uses};
 ghost use Rattle.cs_forms.specs.Agrees.{Agrees, AgreesBy};
 ghost use Rattle.cs_check.specs.Steps as steps;
-ghost use Rattle.cs_forms.specs.Views.{scope_of, listed_view};
+ghost use Rattle.cs_forms.specs.Views.{scope_of, forbidden_of, listed_view};
 ghost use Rattle.cs_check.specs.Views.{head_view};
 
 use crate::expressions::value;
@@ -22,7 +22,7 @@ use sqlite_items::Boxed;
 /// A condition.
 #[tactic(auto, unfolding(cs_rules::specs::Statements::condition))]
 pub fn condition(names: &Names<'_>, a: &Expr) -> Result<Boxed<Code>, CheckFault>
-    ensures { Agrees result (spec.condition (uses a.now).value (scope_of names.now)) }
+    ensures { Agrees result (spec.condition (uses (forbidden_of names.now) a.now).value (scope_of names.now)) }
 {
     let x = value(names, a)?;
     let code = fitting(&CsType::Bool, x)?;
@@ -30,7 +30,7 @@ pub fn condition(names: &Names<'_>, a: &Expr) -> Result<Boxed<Code>, CheckFault>
 }
 
 fn stepped(names: &Names<'_>, a: &Expr) -> Result<Boxed<Code>, CheckFault>
-    ensures { Agrees result (spec.stepped (uses a.now).value (scope_of names.now)) }
+    ensures { Agrees result (spec.stepped (uses (forbidden_of names.now) a.now).value (scope_of names.now)) }
 {
     let x = value(names, a)?;
     Ok(boxed_code(names.alloc, x)?)
@@ -41,7 +41,7 @@ fn optional_condition(
     names: &Names<'_>,
     a: &Option<Expr>,
 ) -> Result<Option<Boxed<Code>>, CheckFault>
-    ensures { Agrees result (if_there (λ x. spec.condition x (scope_of names.now)) (option_map (λ x. x.value) (option_map uses a.now))) }
+    ensures { Agrees result (if_there (λ x. spec.condition x (scope_of names.now)) (option_map (λ x. x.value) (option_map (uses (forbidden_of names.now)) a.now))) }
 {
     match a {
         None => Ok(None),
@@ -50,7 +50,7 @@ fn optional_condition(
 }
 
 fn optional_step(names: &Names<'_>, a: &Option<Expr>) -> Result<Option<Boxed<Code>>, CheckFault>
-    ensures { Agrees result (if_there (λ x. spec.stepped x (scope_of names.now)) (option_map (λ x. x.value) (option_map uses a.now))) }
+    ensures { Agrees result (if_there (λ x. spec.stepped x (scope_of names.now)) (option_map (λ x. x.value) (option_map (uses (forbidden_of names.now)) a.now))) }
 {
     match a {
         None => Ok(None),
@@ -60,7 +60,7 @@ fn optional_step(names: &Names<'_>, a: &Option<Expr>) -> Result<Option<Boxed<Cod
 
 /// The list of a `foreach`.
 pub fn list_of(names: &Names<'_>, list: &Expr) -> Result<Listed, CheckFault>
-    ensures { AgreesBy listed_view result (steps.list_of (uses list.now).value (scope_of names.now)) }
+    ensures { AgreesBy listed_view result (steps.list_of (uses (forbidden_of names.now) list.now).value (scope_of names.now)) }
 {
     let x = value(names, list)?;
     items_and_code(names.alloc, x)
@@ -80,8 +80,8 @@ pub fn heading(
     test: &Option<Expr>,
     step: &Option<Expr>,
 ) -> Result<Boxed<Head>, CheckFault>
-    ensures { AgreesBy head_view result (steps.heading start (option_map (λ x. x.value) (option_map uses test.now))
-        (option_map (λ x. x.value) (option_map uses step.now)) (scope_of names.now)) }
+    ensures { AgreesBy head_view result (steps.heading start (option_map (λ x. x.value) (option_map (uses (forbidden_of names.now)) test.now))
+        (option_map (λ x. x.value) (option_map (uses (forbidden_of names.now)) step.now)) (scope_of names.now)) }
 {
     let test = optional_condition(names, test)?;
     let step = optional_step(names, step)?;

@@ -2,11 +2,11 @@
 ghost use Rattle.std.specs.Prelude.{◌≡◌, map, option_map, OnOk, take, length};
 ghost use Rattle.cs_rules.specs.Judged.{if_there};
 ghost use Rattle.cs_rules.specs.Statements as spec;
-ghost use Rattle.cs_rules.specs.Trees.{uses};
+ghost use Rattle.cs_forbidden.specs.Trees.{uses};
 ghost use Rattle.cs_rules.specs.Written as written_spec;
 ghost use Rattle.cs_forms.specs.Agrees.{Agrees, AgreesBy};
 ghost use Rattle.cs_check.specs.Steps as steps;
-ghost use Rattle.cs_forms.specs.Views.{scope_of};
+ghost use Rattle.cs_forms.specs.Views.{scope_of, forbidden_of};
 ghost use Rattle.cs_check.specs.Views.{ready_view};
 
 use crate::expressions::value;
@@ -29,7 +29,7 @@ fn declared_type(
     match cs_type {
         None => Ok(None),
         Some(cs_type) => {
-            let records = names.scope.records.as_slice();
+            let records = names.around.scope.records.as_slice();
             Ok(Some(written(names.alloc, records, cs_type)?))
         }
     }
@@ -37,7 +37,7 @@ fn declared_type(
 
 /// The initial value of a local.
 fn initial(names: &Names<'_>, name: &Ident, a: &Option<Expr>) -> Result<Boxed<Checked>, CheckFault>
-    ensures { Agrees result (spec.initial name.now (option_map (λ x. x.value) (option_map uses a.now)) (scope_of names.now)) }
+    ensures { Agrees result (spec.initial name.now (option_map (λ x. x.value) (option_map (uses (forbidden_of names.now)) a.now)) (scope_of names.now)) }
 {
     match a {
         None => Err(CheckFault::Broken {
@@ -90,7 +90,7 @@ fn prepared(
     name: &Ident,
     a: &Option<Expr>,
 ) -> Result<Ready, CheckFault>
-    ensures { AgreesBy ready_view result (steps.prepared cs_type.now name.now (option_map (λ x. x.value) (option_map uses a.now)) (scope_of names.now)) }
+    ensures { AgreesBy ready_view result (steps.prepared cs_type.now name.now (option_map (λ x. x.value) (option_map (uses (forbidden_of names.now)) a.now)) (scope_of names.now)) }
 {
     let declared = declared_type(names, cs_type)?;
     names.is_new(name)?;
@@ -107,8 +107,8 @@ pub fn local(
     a: &Option<Expr>,
 ) -> Result<Code, CheckFault>
     ensures does { AgreesBy (λ code. spec.done (scope_of names.new) code) result
-        (spec.local cs_type.now name.now (option_map (λ x. x.value) (option_map uses a.now)) (scope_of names.old)) }
-    ensures scope { names.new.scope ≡ names.old.scope }
+        (spec.local cs_type.now name.now (option_map (λ x. x.value) (option_map (uses (forbidden_of names.old)) a.now)) (scope_of names.old)) }
+    ensures around { names.new.around ≡ names.old.around }
     ensures kept { OnOk result (take (length names.old.locals) names.new.locals ≡ names.old.locals) }
 {
     let Ready { cs_type, code } = prepared(names, cs_type, name, a)?;

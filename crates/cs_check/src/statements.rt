@@ -2,9 +2,10 @@
 ghost use Rattle.std.specs.Prelude.{◌≡◌, map, option_map, OnOk, take, length};
 ghost use Rattle.cs_rules.specs.Judged.{each, if_there};
 ghost use Rattle.cs_rules.specs.Statements as spec;
-ghost use Rattle.cs_rules.specs.Trees.{uses, statement as statement_of, statement_of_kind, section as section_of};
+ghost use Rattle.cs_forbidden.specs.Trees.{uses, statement as statement_of};
+ghost use Rattle.cs_forbidden.specs.Forms.{statement_of_kind, section as section_of};
 ghost use Rattle.cs_forms.specs.Agrees.{Agrees, AgreesBy};
-ghost use Rattle.cs_forms.specs.Views.{scope_of};
+ghost use Rattle.cs_forms.specs.Views.{scope_of, forbidden_of};
 
 use crate::expressions::value;
 use crate::heads::{Head, condition, deciding, heading, list_of};
@@ -22,7 +23,7 @@ use text_core::Place;
 
 /// Ends the scopes of locals behind the first ones.
 fn cut(names: &mut Names<'_>, depth: usize)
-    ensures scope { names.new.scope ≡ names.old.scope }
+    ensures around { names.new.around ≡ names.old.around }
     ensures kept { names.new.locals ≡ take depth names.old.locals }
 {
     while names.locals.len() > depth {
@@ -32,7 +33,7 @@ fn cut(names: &mut Names<'_>, depth: usize)
 
 #[tactic(auto, unfolding(cs_rules::specs::Statements::perform))]
 fn perform(names: &Names<'_>, a: &Expr) -> Result<Code, CheckFault>
-    ensures { AgreesBy (λ code. spec.done (scope_of names.now) code) result (spec.perform (uses a.now).value (scope_of names.now)) }
+    ensures { AgreesBy (λ code. spec.done (scope_of names.now) code) result (spec.perform (uses (forbidden_of names.now) a.now).value (scope_of names.now)) }
 {
     let x = value(names, a)?;
     let code = boxed_code(names.alloc, x)?;
@@ -42,18 +43,18 @@ fn perform(names: &Names<'_>, a: &Expr) -> Result<Code, CheckFault>
 #[tactic(auto, unfolding(cs_rules::specs::Statements::return_of))]
 fn return_of(names: &Names<'_>, a: &Option<Expr>, place: Place) -> Result<Code, CheckFault>
     ensures { AgreesBy (λ code. spec.done (scope_of names.now) code) result
-        (spec.return_of (option_map (λ x. x.value) (option_map uses a.now)) place (scope_of names.now)) }
+        (spec.return_of (option_map (λ x. x.value) (option_map (uses (forbidden_of names.now)) a.now)) place (scope_of names.now)) }
 {
     match a {
         None => {
-            if !fits(&ExprType::Of(CsType::Nothing), &names.scope.result) {
+            if !fits(&ExprType::Of(CsType::Nothing), &names.around.scope.result) {
                 return Err(mismatch(place));
             }
             Ok(Code::Return(None))
         }
         Some(a) => {
             let x = value(names, a)?;
-            let code = fitting(&names.scope.result, x)?;
+            let code = fitting(&names.around.scope.result, x)?;
             Ok(Code::Return(Some(Boxed::new(names.alloc, code)?)))
         }
     }
@@ -61,9 +62,9 @@ fn return_of(names: &Names<'_>, a: &Option<Expr>, place: Place) -> Result<Code, 
 
 /// What a statement comes to.
 #[cycle(statements)]
-fn statement(names: &mut Names<'_>, one: &Stmt) -> Result<Code, CheckFault>
-    ensures does { AgreesBy (λ code. spec.done (scope_of names.new) code) result (statement_of one.now (scope_of names.old)) }
-    ensures scope { names.new.scope ≡ names.old.scope }
+pub fn statement(names: &mut Names<'_>, one: &Stmt) -> Result<Code, CheckFault>
+    ensures does { AgreesBy (λ code. spec.done (scope_of names.new) code) result (statement_of (forbidden_of names.old) one.now (scope_of names.old)) }
+    ensures around { names.new.around ≡ names.old.around }
     ensures kept { OnOk result (take (length names.old.locals) names.new.locals ≡ names.old.locals) }
 {
     form(names, one.place, &one.kind)
@@ -73,8 +74,8 @@ fn statement(names: &mut Names<'_>, one: &Stmt) -> Result<Code, CheckFault>
 #[cycle(statements)]
 #[tactic(auto, using(crate::proofs::ScopeLemmas::kept_self))]
 fn form(names: &mut Names<'_>, place: Place, kind: &StmtKind) -> Result<Code, CheckFault>
-    ensures does { AgreesBy (λ code. spec.done (scope_of names.new) code) result (statement_of_kind kind.now place (scope_of names.old)) }
-    ensures scope { names.new.scope ≡ names.old.scope }
+    ensures does { AgreesBy (λ code. spec.done (scope_of names.new) code) result (statement_of_kind (forbidden_of names.old) kind.now place (scope_of names.old)) }
+    ensures around { names.new.around ≡ names.old.around }
     ensures kept { OnOk result (take (length names.old.locals) names.new.locals ≡ names.old.locals) }
 {
     match kind {
@@ -107,8 +108,8 @@ fn form(names: &mut Names<'_>, place: Place, kind: &StmtKind) -> Result<Code, Ch
 #[cycle(statements)]
 #[tactic(auto, using(cs_forms::proofs::FrontLemmas::front_none, cs_forms::proofs::FrontLemmas::front_more, cs_forms::proofs::FrontLemmas::front_end, crate::proofs::ScopeLemmas::kept_self, crate::proofs::ScopeLemmas::kept_on))]
 pub fn in_order(names: &mut Names<'_>, body: &[Stmt]) -> Result<Items<Code>, CheckFault>
-    ensures does { Agrees result (spec.in_order (map statement_of body.now) (scope_of names.old)) }
-    ensures scope { names.new.scope ≡ names.old.scope }
+    ensures does { Agrees result (spec.in_order (map (statement_of (forbidden_of names.old)) body.now) (scope_of names.old)) }
+    ensures around { names.new.around ≡ names.old.around }
     ensures kept { OnOk result (take (length names.old.locals) names.new.locals ≡ names.old.locals) }
 {
     let mut codes = Items::new(names.alloc);
@@ -121,8 +122,8 @@ pub fn in_order(names: &mut Names<'_>, body: &[Stmt]) -> Result<Items<Code>, Che
 /// The same in a scope of their own.
 #[cycle(statements)]
 fn enclosed(names: &mut Names<'_>, body: &[Stmt]) -> Result<Items<Code>, CheckFault>
-    ensures does { Agrees result (spec.in_order (map statement_of body.now) (scope_of names.old)) }
-    ensures scope { names.new.scope ≡ names.old.scope }
+    ensures does { Agrees result (spec.in_order (map (statement_of (forbidden_of names.old)) body.now) (scope_of names.old)) }
+    ensures around { names.new.around ≡ names.old.around }
     ensures same { OnOk result (names.new.locals ≡ names.old.locals) }
 {
     let depth = names.locals.len();
@@ -134,8 +135,8 @@ fn enclosed(names: &mut Names<'_>, body: &[Stmt]) -> Result<Items<Code>, CheckFa
 /// A statement in a scope of its own.
 #[cycle(statements)]
 fn alone(names: &mut Names<'_>, one: &Stmt) -> Result<Boxed<Code>, CheckFault>
-    ensures does { Agrees result (spec.alone (statement_of one.now) (scope_of names.old)) }
-    ensures scope { names.new.scope ≡ names.old.scope }
+    ensures does { Agrees result (spec.alone (statement_of (forbidden_of names.old) one.now) (scope_of names.old)) }
+    ensures around { names.new.around ≡ names.old.around }
     ensures same { OnOk result (names.new.locals ≡ names.old.locals) }
 {
     let depth = names.locals.len();
@@ -150,8 +151,8 @@ fn optional_alone(
     names: &mut Names<'_>,
     one: &Option<Boxed<Stmt>>,
 ) -> Result<Option<Boxed<Code>>, CheckFault>
-    ensures does { Agrees result (if_there (λ x. spec.alone x (scope_of names.old)) (option_map statement_of one.now)) }
-    ensures scope { names.new.scope ≡ names.old.scope }
+    ensures does { Agrees result (if_there (λ x. spec.alone x (scope_of names.old)) (option_map (statement_of (forbidden_of names.old)) one.now)) }
+    ensures around { names.new.around ≡ names.old.around }
     ensures same { OnOk result (names.new.locals ≡ names.old.locals) }
 {
     match one {
@@ -163,8 +164,8 @@ fn optional_alone(
 #[cycle(statements)]
 #[tactic(auto, unfolding(cs_rules::specs::Statements::block), using(crate::proofs::ScopeLemmas::kept_self))]
 fn block(names: &mut Names<'_>, body: &[Stmt]) -> Result<Code, CheckFault>
-    ensures does { AgreesBy (λ code. spec.done (scope_of names.new) code) result (spec.block (map statement_of body.now) (scope_of names.old)) }
-    ensures scope { names.new.scope ≡ names.old.scope }
+    ensures does { AgreesBy (λ code. spec.done (scope_of names.new) code) result (spec.block (map (statement_of (forbidden_of names.old)) body.now) (scope_of names.old)) }
+    ensures around { names.new.around ≡ names.old.around }
     ensures kept { OnOk result (take (length names.old.locals) names.new.locals ≡ names.old.locals) }
 {
     let codes = enclosed(names, body)?;
@@ -180,8 +181,8 @@ fn if_else(
     no: &Option<Boxed<Stmt>>,
 ) -> Result<Code, CheckFault>
     ensures does { AgreesBy (λ code. spec.done (scope_of names.new) code) result
-        (spec.if_else (uses test.now).value (statement_of yes.now) (option_map statement_of no.now) (scope_of names.old)) }
-    ensures scope { names.new.scope ≡ names.old.scope }
+        (spec.if_else (uses (forbidden_of names.old) test.now).value (statement_of (forbidden_of names.old) yes.now) (option_map (statement_of (forbidden_of names.old)) no.now) (scope_of names.old)) }
+    ensures around { names.new.around ≡ names.old.around }
     ensures kept { OnOk result (take (length names.old.locals) names.new.locals ≡ names.old.locals) }
 {
     let code = condition(names, test)?;
@@ -194,8 +195,8 @@ fn if_else(
 #[tactic(auto, unfolding(cs_rules::specs::Statements::while_loop), using(crate::proofs::ScopeLemmas::kept_self))]
 fn while_loop(names: &mut Names<'_>, body: &Stmt, test: &Expr) -> Result<Code, CheckFault>
     ensures does { AgreesBy (λ code. spec.done (scope_of names.new) code) result
-        (spec.while_loop (uses test.now).value (statement_of body.now) (scope_of names.old)) }
-    ensures scope { names.new.scope ≡ names.old.scope }
+        (spec.while_loop (uses (forbidden_of names.old) test.now).value (statement_of (forbidden_of names.old) body.now) (scope_of names.old)) }
+    ensures around { names.new.around ≡ names.old.around }
     ensures kept { OnOk result (take (length names.old.locals) names.new.locals ≡ names.old.locals) }
 {
     let code = condition(names, test)?;
@@ -209,8 +210,8 @@ fn started(
     names: &mut Names<'_>,
     start: &Option<Boxed<Stmt>>,
 ) -> Result<Option<Boxed<Code>>, CheckFault>
-    ensures does { AgreesBy (λ code. (code, scope_of names.new)) result (spec.started (option_map statement_of start.now) (scope_of names.old)) }
-    ensures scope { names.new.scope ≡ names.old.scope }
+    ensures does { AgreesBy (λ code. (code, scope_of names.new)) result (spec.started (option_map (statement_of (forbidden_of names.old)) start.now) (scope_of names.old)) }
+    ensures around { names.new.around ≡ names.old.around }
     ensures kept { OnOk result (take (length names.old.locals) names.new.locals ≡ names.old.locals) }
 {
     match start {
@@ -232,9 +233,9 @@ fn for_loop(
     body: &Stmt,
 ) -> Result<Code, CheckFault>
     ensures does { AgreesBy (λ code. spec.done (scope_of names.new) code) result
-        (spec.for_loop (option_map statement_of start.now) (option_map (λ x. x.value) (option_map uses test.now))
-        (option_map (λ x. x.value) (option_map uses step.now)) (statement_of body.now) (scope_of names.old)) }
-    ensures scope { names.new.scope ≡ names.old.scope }
+        (spec.for_loop (option_map (statement_of (forbidden_of names.old)) start.now) (option_map (λ x. x.value) (option_map (uses (forbidden_of names.old)) test.now))
+        (option_map (λ x. x.value) (option_map (uses (forbidden_of names.old)) step.now)) (statement_of (forbidden_of names.old) body.now) (scope_of names.old)) }
+    ensures around { names.new.around ≡ names.old.around }
     ensures kept { OnOk result (take (length names.old.locals) names.new.locals ≡ names.old.locals) }
 {
     let depth = names.locals.len();
@@ -255,8 +256,8 @@ fn for_each(
     list: &Expr,
 ) -> Result<Code, CheckFault>
     ensures does { AgreesBy (λ code. spec.done (scope_of names.new) code) result
-        (spec.for_each name.now (uses list.now).value (statement_of body.now) (scope_of names.old)) }
-    ensures scope { names.new.scope ≡ names.old.scope }
+        (spec.for_each name.now (uses (forbidden_of names.old) list.now).value (statement_of (forbidden_of names.old) body.now) (scope_of names.old)) }
+    ensures around { names.new.around ≡ names.old.around }
     ensures kept { OnOk result (take (length names.old.locals) names.new.locals ≡ names.old.locals) }
 {
     names.is_new(name)?;
@@ -271,10 +272,10 @@ fn for_each(
 
 /// A section of a `switch` that decides by a type.
 #[cycle(statements)]
-#[tactic(auto, unfolding(cs_rules::specs::Statements::section), using(cs_rules::proofs::Laws::section_law))]
+#[tactic(auto, unfolding(cs_rules::specs::Statements::section), using(cs_forbidden::proofs::FormLaws::section_law))]
 fn section(names: &mut Names<'_>, decided: &ExprType, it: &Section) -> Result<Code, CheckFault>
-    ensures does { Agrees result (section_of it.now decided.now (scope_of names.old)) }
-    ensures scope { names.new.scope ≡ names.old.scope }
+    ensures does { Agrees result (section_of (forbidden_of names.old) it.now decided.now (scope_of names.old)) }
+    ensures around { names.new.around ≡ names.old.around }
     ensures same { OnOk result (names.new.locals ≡ names.old.locals) }
 {
     let labels = it.labels.as_slice();
@@ -290,8 +291,8 @@ fn sections(
     decided: &ExprType,
     all: &[Section],
 ) -> Result<Items<Code>, CheckFault>
-    ensures does { Agrees result (each (λ one. one decided.now (scope_of names.old)) (map section_of all.now)) }
-    ensures scope { names.new.scope ≡ names.old.scope }
+    ensures does { Agrees result (each (λ one. one decided.now (scope_of names.old)) (map (section_of (forbidden_of names.old)) all.now)) }
+    ensures around { names.new.around ≡ names.old.around }
     ensures same { OnOk result (names.new.locals ≡ names.old.locals) }
 {
     let mut codes = Items::new(names.alloc);
@@ -305,8 +306,8 @@ fn sections(
 #[tactic(auto, unfolding(cs_rules::specs::Statements::switch_of), using(crate::proofs::ScopeLemmas::kept_self))]
 fn switch(names: &mut Names<'_>, all: &[Section], a: &Expr) -> Result<Code, CheckFault>
     ensures does { AgreesBy (λ code. spec.done (scope_of names.new) code) result
-        (spec.switch_of (uses a.now).value (map section_of all.now) (scope_of names.old)) }
-    ensures scope { names.new.scope ≡ names.old.scope }
+        (spec.switch_of (uses (forbidden_of names.old) a.now).value (map (section_of (forbidden_of names.old)) all.now) (scope_of names.old)) }
+    ensures around { names.new.around ≡ names.old.around }
     ensures kept { OnOk result (take (length names.old.locals) names.new.locals ≡ names.old.locals) }
 {
     let x = value(names, a)?;

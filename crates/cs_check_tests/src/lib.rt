@@ -2,4 +2,10 @@
 #![tactic(auto)]
 
 #[cfg(test)]
+mod forbidden;
+#[cfg(test)]
+mod nested;
+#[cfg(test)]
 mod rules;
+#[cfg(test)]
+mod trees;

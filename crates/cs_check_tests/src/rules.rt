@@ -1,131 +1,13 @@
 // Rules at small bodies: which is told at which column, and what comes of code that breaks none.
-use cs_ast::{
-    AssignOp, BinaryOp, Code, CsType, Expr, ExprKind, Ident, NameKind, Named, Scope, Stmt,
-    StmtKind, TypeExpr, TypeKind,
+use crate::trees::{
+    assignment, at, binary, call, int, local, name, perform, record_type, scope, truth,
 };
+use cs_ast::{BinaryOp, Code, CsType, Stmt, StmtKind};
 use cs_check::{CheckFault, ExprType, Rule, check_body, check_expr};
-use sqlite_items::{Boxed, Items};
+use sqlite_items::Items;
 use std::alloc::Global;
 use std::test::Fail;
-use text_core::{Oom, Place, Txt};
-
-fn at(column: u32) -> Place {
-    Place { line: 1, column }
-}
-
-fn expr(column: u32, kind: ExprKind) -> Expr {
-    Expr {
-        place: at(column),
-        kind,
-    }
-}
-
-fn int(column: u32) -> Expr {
-    expr(column, ExprKind::Int(1))
-}
-
-fn truth(column: u32) -> Expr {
-    expr(column, ExprKind::Bool(true))
-}
-
-fn name(alloc: Global, column: u32, text: &str) -> Result<Expr, Oom> {
-    Ok(expr(column, ExprKind::Name(Txt::from_str(alloc, text)?)))
-}
-
-fn ident(alloc: Global, column: u32, text: &str) -> Result<Ident, Oom> {
-    let name = Txt::from_str(alloc, text)?;
-    Ok(Ident {
-        place: at(column),
-        name,
-    })
-}
-
-/// An operator between two operands, which begins with the first.
-fn binary(alloc: Global, op: BinaryOp, a: Expr, b: Expr) -> Result<Expr, Oom> {
-    let place = a.place;
-    let a = Boxed::new(alloc, a)?;
-    let b = Boxed::new(alloc, b)?;
-    Ok(Expr {
-        place,
-        kind: ExprKind::Binary(op, a, b),
-    })
-}
-
-/// `target = value`
-fn assignment(alloc: Global, target: &str, value: Expr) -> Result<Expr, Oom> {
-    let target = ident(alloc, 1, target)?;
-    let value = Boxed::new(alloc, value)?;
-    Ok(expr(1, ExprKind::Assign(AssignOp::Set, target, value)))
-}
-
-/// `F(argument)`, or `F()`.
-fn call(alloc: Global, argument: Option<Expr>) -> Result<Expr, Oom> {
-    let target = Boxed::new(alloc, name(alloc, 1, "F")?)?;
-    let mut arguments = Items::new(alloc);
-    if let Some(argument) = argument {
-        arguments.push(argument)?;
-    }
-    Ok(expr(1, ExprKind::Call(target, arguments)))
-}
-
-/// `value;`
-fn perform(value: Expr) -> Stmt {
-    Stmt {
-        place: value.place,
-        kind: StmtKind::Expr(value),
-    }
-}
-
-/// `T x = value;`, or with `var`, or without a value.
-fn local(
-    alloc: Global,
-    cs_type: Option<TypeExpr>,
-    text: &str,
-    value: Option<Expr>,
-) -> Result<Stmt, Oom> {
-    let name = ident(alloc, 5, text)?;
-    Ok(Stmt {
-        place: at(1),
-        kind: StmtKind::Local {
-            cs_type,
-            name,
-            value,
-        },
-    })
-}
-
-fn named(
-    alloc: Global,
-    text: &str,
-    cs_type: CsType,
-    kind: NameKind,
-    place: u32,
-) -> Result<Named, Oom> {
-    let name = Txt::from_str(alloc, text)?;
-    Ok(Named {
-        name,
-        cs_type,
-        kind,
-        place,
-    })
-}
-
-/// A scope with a field n, a parameter P, a method F of one number, a local s of type string and one more called n.
-fn scope(alloc: Global) -> Result<Scope, Oom> {
-    let mut takes = Items::new(alloc);
-    takes.push(CsType::Int)?;
-    let mut names = Items::new(alloc);
-    names.push(named(alloc, "n", CsType::Bool, NameKind::Field, 7)?)?;
-    names.push(named(alloc, "P", CsType::Int, NameKind::Parameter, 3)?)?;
-    names.push(named(alloc, "F", CsType::Int, NameKind::Method(takes), 9)?)?;
-    names.push(named(alloc, "s", CsType::Text, NameKind::Local, 0)?)?;
-    names.push(named(alloc, "n", CsType::Int, NameKind::Local, 1)?)?;
-    Ok(Scope {
-        names,
-        records: Items::new(alloc),
-        result: CsType::Nothing,
-    })
-}
+use text_core::Oom;
 
 /// A body, the rule that it breaks, and the column.
 #[derive(Drop)]
@@ -147,10 +29,7 @@ fn of_names(alloc: Global, cases: &mut Vec<Case>) -> Result<(), Oom> {
     cases.push(broken(alloc, again, Rule::DuplicateName, 5)?)?;
     let nothing = perform(name(alloc, 3, "z")?);
     cases.push(broken(alloc, nothing, Rule::UnknownName, 3)?)?;
-    let written = TypeExpr {
-        place: at(1),
-        kind: TypeKind::Named(Txt::from_str(alloc, "Z")?),
-    };
+    let written = record_type(alloc, "Z")?;
     let untyped = local(alloc, Some(written), "x", Some(int(9)))?;
     cases.push(broken(alloc, untyped, Rule::UnknownType, 1)?)?;
     let unset = local(alloc, None, "x", None)?;

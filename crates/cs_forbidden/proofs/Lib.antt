@@ -1,2 +1,5 @@
 pub mod FormLaws
+pub mod ExpressionLaws
+pub mod StatementLaws
+pub mod RootLaws
 pub mod Nothing

@@ -1,6 +1,10 @@
 // What is forbidden.
+ghost use Rattle.std.specs.Prelude.{◌≡◌};
+ghost use Rattle.cs_forbidden.specs.Roots as spec;
+
 use cs_rules::Rule;
 use sqlite_items::Items;
+use std::alloc::Global;
 
 /// Whether code may use a local from outside it.
 #[derive(Clone, Copy, Debug, PartialEq, Eq)]
@@ -24,4 +28,18 @@ pub struct Forbidden {
     pub invokes: Option<Rule>,
     /// The numbers of the bodies that do what is forbidden; a call of one breaks the rule against invoking.
     pub bodies: Items<u32>,
+}
+
+impl Forbidden {
+    /// Nothing is forbidden.
+    pub fn nothing(alloc: Global) -> Forbidden
+        ensures { result ≡ spec.nothing }
+    {
+        Forbidden {
+            outside: Items::new(alloc),
+            changes: None,
+            invokes: None,
+            bodies: Items::new(alloc),
+        }
+    }
 }

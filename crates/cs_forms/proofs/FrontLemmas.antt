@@ -1,5 +1,5 @@
 -- Lists that are judged item by item, with those so far in front.
-use Rattle.std.proofs.Common.{◌≡◌, List, [], ◌∷◌, ◌++◌, map, refl, sym, ap, append_assoc}
+use Rattle.std.proofs.Common.{◌≡◌, List, [], ◌∷◌, ◌++◌, refl, sym, ap, append_assoc}
 use Rattle.std.proofs.lemmas.List.{append-nil}
 use Rattle.cs_rules.specs.Judged.{Judged, fine, breaks, ◌>>=◌}
 use Rattle.cs_ast.specs.declared.value.Value.{Value}

@@ -1,3 +1,4 @@
 pub mod NameLemmas
 pub mod FrontLemmas
 pub mod CallLemmas
+pub mod ComparingLemmas

@@ -1,13 +1,10 @@
--- Names in a scope behind those of an outer one, and records.
-use Rattle.std.proofs.Common.{◌≡◌, ◌≢◌, ℕ, zero, suc, ◌+◌, ◌-◌, List, [], ◌∷◌, ◌++◌, reverse, sym, ap, refl, ◌∙◌, arith}
+-- Names in a scope behind those of an outer one.
+use Rattle.std.proofs.Common.{◌≡◌, ℕ, ◌+◌, List, [], ◌∷◌, ◌++◌, reverse, sym, ap, refl, ◌∙◌, arith}
 use Rattle.std.proofs.lemmas.List.{append-nil, reverse-append}
-use Rattle.std.specs.Prelude.{Bool, true, false, if◌then◌else◌, Option, Some, None, bytes_eq, is_some, option_map}
-use Rattle.cs_ast.specs.declared.cs_type.CsType.TheVariants as ty
-use Rattle.cs_ast.specs.declared.member.Member.{Member}
+use Rattle.std.specs.Prelude.{Bool, true, false, if◌then◌else◌, Option, Some, None, bytes_eq}
 use Rattle.cs_ast.specs.declared.scope.Named.{Named}
 use Rattle.cs_ast.specs.declared.scope.Scope.{Scope}
 use Rattle.cs_rules.specs.Names.{first_named, meant, locals_in}
-use Rattle.cs_rules.specs.Written.{compares, all_parts, record_named}
 
 pub locals_append : (a b : List Named) → locals_in (a ++ b) ≡ locals_in a + locals_in b
 locals_append [] b = omega arith
@@ -35,10 +32,6 @@ meant_inner name a b one is = meant_append name a b ∙ ap (λ o. or_else o (fir
 
 pub meant_outer : (name : List ℕ) (a b : List Named) → None ≡ first_named name (reverse b) → meant (a ++ b) name ≡ first_named name (reverse a)
 meant_outer name a b is = meant_append name a b ∙ ap (λ o. or_else o (first_named name (reverse a))) (sym is)
-
-pub compares_record : (depth : ℕ) (records : List Member) (name : List ℕ) → depth ≢ 0 → compares depth records (ty.Rec name) ≡ all_parts (compares (depth - 1) records) (record_named records name)
-compares_record zero records name is = absurd (is refl)
-compares_record (suc depth) records name is = let e : depth ≡ suc depth - 1 = omega arith in ap (λ d. all_parts (compares d records) (record_named records name)) e
 
 pub no_locals : (s : Scope) → record s { names = s.names ++ [] } ≡ s
 no_locals s = ap (λ (names : List Named). record s { names = names }) (append-nil s.names)

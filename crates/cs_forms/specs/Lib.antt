@@ -1,3 +1,4 @@
 pub mod Agrees
 pub mod Views
 pub mod Steps
+pub mod Comparing

@@ -1,6 +1,7 @@
 -- What the values of this crate stand for in the definitions of the rules.
 use Rattle.std.specs.Prelude.{◌++◌}
 use Rattle.cs_ast.specs.declared.scope.Scope.{Scope}
+use Rattle.cs_forbidden.specs.declared.forbidden.Forbidden.{Forbidden}
 use Rattle.cs_rules.specs.Written as written
 use Rattle.cs_rules.specs.Expressions as expressions
 use Rattle.cs_forms.specs.declared.arguments.Replacing.{Replacing}
@@ -17,7 +18,11 @@ declared found = record { number = found.number; parts = found.parts.now }
 
 -- the scope that code is checked in: the one that was given, and the locals declared in it
 abbrev pub scope_of : Names → Scope
-scope_of names = record { names = names.scope.now.names ++ names.locals; records = names.scope.now.records; result = names.scope.now.result }
+scope_of names = record { names = names.around.scope.now.names ++ names.locals; records = names.around.scope.now.records; result = names.around.scope.now.result }
+
+-- what is forbidden there
+abbrev pub forbidden_of : Names → Forbidden
+forbidden_of names = names.around.forbidden.now
 
 -- a new value of a part, and several
 abbrev pub replacing_view : Replacing → expressions.Replacing

@@ -12,8 +12,8 @@ ghost use Rattle.cs_forms.specs.Steps as steps;
 
 use crate::CheckFault;
 use crate::arguments::passed;
+use crate::calls::code_of_call;
 use crate::leaves::{chosen_type, items_of};
-use crate::library::code_of_call;
 use crate::members::narrowed;
 use crate::operators::{binary_type, cast_type};
 use crate::types::{boxed_code, checked, code_of, copy_type, fitting, typed};

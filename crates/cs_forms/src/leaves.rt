@@ -16,8 +16,9 @@ ghost use Rattle.cs_forms.specs.Agrees.{Agrees, AgreesBy};
 ghost use Rattle.cs_forms.specs.Views.{declared, scope_of};
 
 use crate::CheckFault;
+use crate::callees::callee_of_value;
 use crate::fault::mismatch;
-use crate::library::{callee_of_value, static_value};
+use crate::library::static_value;
 use crate::members::{Part, behind, part_named};
 use crate::names::{Names, value_of_name, variable_of};
 use crate::operators::{binary_type, either_type, is_value};
@@ -90,7 +91,7 @@ pub fn dotted(names: &Names<'_>, x: &Checked, name: &Ident) -> Result<Boxed<Dott
     ensures { Agrees result (spec.dotted (scope_of names.now) x.now name.now) }
 {
     let cs_type = own_type(x.place, &x.expr_type)?;
-    let records = names.scope.records.as_slice();
+    let records = names.around.scope.records.as_slice();
     match behind(names.alloc, records, cs_type, &name.name)? {
         Some(found) => Ok(Boxed::new(names.alloc, found)?),
         None => Err(CheckFault::Broken {
@@ -145,7 +146,7 @@ pub fn empty_list(
 ) -> Result<Boxed<Checked>, CheckFault>
     ensures { Agrees result (spec.empty_list cs_type.now place (scope_of names.now)) }
 {
-    let item = written(names.alloc, names.scope.records.as_slice(), cs_type)?;
+    let item = written(names.alloc, names.around.scope.records.as_slice(), cs_type)?;
     let item = Boxed::new(names.alloc, item)?;
     let code = Code::Library(LibraryMember::EmptyList, Items::new(names.alloc));
     checked(names.alloc, place, code, CsType::List(item))
@@ -174,7 +175,7 @@ fn operated(
     ensures { Agrees result (operators_spec.binary_type (scope_of names.now).records op target (type_by.Of cs_type.now) x.now.place x.now.expr_type) }
 {
     let old = of_type(names.alloc, cs_type)?;
-    let records = names.scope.records.as_slice();
+    let records = names.around.scope.records.as_slice();
     binary_type(
         names.alloc,
         records,

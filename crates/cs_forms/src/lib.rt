@@ -5,7 +5,11 @@
 //! expressions or statements: that is for the checker above, which calls these form by form.
 #![tactic(auto)]
 
+pub mod allowing;
 pub mod arguments;
+pub mod callees;
+pub mod calls;
+pub mod comparing;
 pub mod fault;
 pub mod joining;
 pub mod labels;

@@ -5,22 +5,30 @@ ghost use Rattle.std.specs.Str.{bytes_eq};
 ghost use Rattle.std.specs.Option.{option_copied};
 ghost use Rattle.cs_rules.specs.Names as spec;
 ghost use Rattle.cs_forms.specs.Agrees.{Agrees, AgreesBy};
-ghost use Rattle.cs_forms.specs.Views.{scope_of};
+ghost use Rattle.cs_forms.specs.Views.{scope_of, forbidden_of};
 
 use crate::CheckFault;
 use crate::fault::mismatch;
 use crate::types::{checked, copy_type};
 use cs_ast::{Code, CsType, Ident, NameKind, Named, Scope, Variable};
+use cs_forbidden::Forbidden;
 use cs_rules::{Checked, Rule};
 use sqlite_items::{Boxed, Items};
 use std::alloc::Global;
 use text_core::{Oom, Place, Txt};
 
-/// The names that code may use: a scope, and the locals that are declared in it.
+/// What code stands in: a scope, and what is forbidden there.
+#[derive(Clone, Copy)]
+pub struct Around<'a> {
+    pub scope: &'a Scope,
+    pub forbidden: &'a Forbidden,
+}
+
+/// The names that code may use: those around it, and the locals that are declared in it.
 #[derive(Drop)]
 pub struct Names<'a> {
     pub alloc: Global,
-    pub scope: &'a Scope,
+    pub around: Around<'a>,
     pub locals: Items<Named>,
 }
 
@@ -75,12 +83,15 @@ fn has_local(names: &[Named], name: &Txt) -> bool
 
 impl<'a> Names<'a> {
     #[tactic(auto, using(crate::proofs::NameLemmas::no_locals))]
-    pub fn new(alloc: Global, scope: &'a Scope) -> Self
-        ensures { scope_of result ≡ scope.now }
+    pub fn new(alloc: Global, scope: &'a Scope, forbidden: &'a Forbidden) -> Self
+        ensures scope { scope_of result ≡ scope.now }
+        ensures forbidden { forbidden_of result ≡ forbidden.now }
+        ensures around { result.around.scope.now ≡ scope.now }
     {
+        let around = Around { scope, forbidden };
         Names {
             alloc,
-            scope,
+            around,
             locals: Items::new(alloc),
         }
     }
@@ -94,7 +105,7 @@ impl Names<'_> {
     {
         match last_named(name, self.locals.as_slice()) {
             Some(local) => Some(local),
-            None => last_named(name, self.scope.names.as_slice()),
+            None => last_named(name, self.around.scope.names.as_slice()),
         }
     }
 
@@ -117,7 +128,7 @@ impl Names<'_> {
     pub fn is_new(&self, name: &Ident) -> Result<(), CheckFault>
         ensures { Agrees result (spec.is_new (scope_of self.now) name.now) }
     {
-        if has_local(self.scope.names.as_slice(), &name.name)
+        if has_local(self.around.scope.names.as_slice(), &name.name)
             || has_local(self.locals.as_slice(), &name.name)
         {
             return Err(CheckFault::Broken {
@@ -133,7 +144,7 @@ impl Names<'_> {
     fn count(&self) -> Result<u32, Oom>
         ensures { IfOk result (λ count. count ≡ spec.locals_in (scope_of self.now).names) }
     {
-        let outer = locals_in(self.scope.names.as_slice());
+        let outer = locals_in(self.around.scope.names.as_slice());
         let inner = locals_in(self.locals.as_slice());
         if outer > 0x7fff_ffff || inner > 0x7fff_ffff {
             return Err(Oom);
@@ -145,7 +156,7 @@ impl Names<'_> {
     #[tactic(auto, unfolding(cs_rules::specs::Names::with_local))]
     pub fn declare(&mut self, name: &Txt, cs_type: CsType) -> Result<(), Oom>
         ensures declared { OnOk result (scope_of self.new ≡ spec.with_local (scope_of self.old) name.now cs_type) }
-        ensures scope { self.new.scope ≡ self.old.scope }
+        ensures around { self.new.around ≡ self.old.around }
         ensures kept { OnOk result (take (length self.old.locals) self.new.locals ≡ self.old.locals) }
     {
         let place = self.count()?;

@@ -8,9 +8,9 @@ ghost use Rattle.cs_rules.specs.Operators as spec;
 ghost use Rattle.cs_forms.specs.Agrees.{Agrees};
 
 use crate::CheckFault;
+use crate::comparing::is_comparable;
 use crate::fault::mismatch;
 use crate::types::{common_type, has_values, may_be_null, same_type, wants};
-use crate::written::is_comparable;
 use cs_ast::{AssignOp, BinaryOp, CastOp, CsType, Member, UnaryOp};
 use cs_rules::ExprType;
 use sqlite_items::Boxed;

@@ -1,6 +1,5 @@
 // Types as they are written, and records.
 ghost use Rattle.std.specs.Prelude.{◌≡◌, IfOk, map, is_some, if◌then◌else◌, option_map};
-ghost use Rattle.std.specs.List.{list_all};
 ghost use Rattle.cs_rules.specs.Written as spec;
 ghost use Rattle.cs_forms.specs.Agrees.{Agrees};
 ghost use Rattle.cs_forms.specs.Views.{declared};
@@ -99,7 +98,7 @@ pub fn part_types(alloc: Global, parts: &[Argument]) -> Result<Items<CsType>, Al
 
 /// Where a written type is none that values of fields, locals and parts may have.
 #[tactic(auto, using(cs_rules::proofs::WrittenLaws::unknown_int, cs_rules::proofs::WrittenLaws::unknown_bool, cs_rules::proofs::WrittenLaws::unknown_text, cs_rules::proofs::WrittenLaws::unknown_named, cs_rules::proofs::WrittenLaws::unknown_list, cs_rules::proofs::WrittenLaws::unknown_callback, cs_rules::proofs::WrittenLaws::unknown_fragment, cs_rules::proofs::WrittenLaws::unknown_change, cs_rules::proofs::WrittenLaws::unknown_args))]
-fn unknown_in(written: &TypeExpr, records: &[Member]) -> Option<Place>
+pub fn unknown_in(written: &TypeExpr, records: &[Member]) -> Option<Place>
     ensures { result ≡ spec.unknown_in records.now written.now }
 {
     match &written.kind {
@@ -124,58 +123,4 @@ pub fn written(alloc: Global, records: &[Member], cs_type: &TypeExpr) -> Result<
         }),
         None => Ok(type_of(alloc, cs_type)?),
     }
-}
-
-/// Whether values of the type are compared, looking so deep into records.
-#[cycle(compares)]
-#[tactic(auto, using(crate::proofs::NameLemmas::compares_record))]
-fn compares(
-    alloc: Global,
-    depth: usize,
-    records: &[Member],
-    cs_type: &CsType,
-) -> Result<bool, AllocError>
-    ensures { IfOk result (λ yes. yes ≡ spec.compares depth records.now cs_type.now) }
-{
-    if depth == 0 {
-        return Ok(false);
-    }
-    match cs_type {
-        CsType::Int | CsType::Bool | CsType::Text => Ok(true),
-        CsType::Rec(name) => match record_named(records, name) {
-            Some(found) => all_compare(alloc, depth - 1, records, found.parts),
-            None => Ok(false),
-        },
-        _ => Ok(false),
-    }
-}
-
-#[cycle(compares)]
-fn all_compare(
-    alloc: Global,
-    depth: usize,
-    records: &[Member],
-    parts: &[Argument],
-) -> Result<bool, AllocError>
-    ensures { IfOk result (λ yes. yes ≡ list_all (λ part. spec.compares depth records.now (spec.type_of part.cs_type)) parts.now) }
-{
-    for part in parts {
-        let cs_type = type_of(alloc, &part.cs_type)?;
-        if !compares(alloc, depth, records, &cs_type)? {
-            return Ok(false);
-        }
-    }
-    Ok(true)
-}
-
-/// Whether values of the type are compared with each other.
-#[tactic(auto, unfolding(cs_rules::specs::Written::is_comparable))]
-pub fn is_comparable(
-    alloc: Global,
-    records: &[Member],
-    cs_type: &CsType,
-) -> Result<bool, AllocError>
-    ensures { IfOk result (λ yes. yes ≡ spec.is_comparable records.now cs_type.now) }
-{
-    compares(alloc, records.len() + 1, records, cs_type)
 }

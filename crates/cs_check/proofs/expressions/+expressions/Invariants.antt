@@ -1,8 +1,9 @@
 use Rattle.std.proofs.Common.{◌≡◌, ◌+◌, ◌*◌, max, map, drop}
 use Rattle.cs_rules.specs.Judged.{each}
 use Rattle.cs_rules.specs.Expressions.{replacements, of_no_record}
-use Rattle.cs_rules.specs.Trees.{uses, piece, given}
-use Rattle.cs_forms.specs.Views.{scope_of, declared}
+use Rattle.cs_forbidden.specs.Trees.{uses}
+use Rattle.cs_forbidden.specs.Forms.{piece, given}
+use Rattle.cs_forms.specs.Views.{scope_of, forbidden_of, declared}
 use Rattle.cs_forms.proofs.FrontLemmas.{with_front}
 use Rattle.cs_check.proofs.FrontLemmas.{in_front}
 use Rattle.cs_check.proofs.expressions.+expressions.Given as goal
@@ -10,22 +11,22 @@ use Rattle.cs_check.proofs.expressions.+expressions.Given as goal
 -- the values so far, and those of the rest
 abbrev pub invariant-values-loop-argument : goal.invariant-values-loop-argument
 invariant-values-loop-argument l =
-    each (λ argument. argument (scope_of l.names)) (map (λ x. x.value) (map uses l.arguments))
-    ≡ with_front l.xs.items (each (λ argument. argument (scope_of l.names)) (map (λ x. x.value) (map uses (drop l.argument-index l.arguments))))
+    each (λ argument. argument (scope_of l.names)) (map (λ x. x.value) (map (uses (forbidden_of l.names)) l.arguments))
+    ≡ with_front l.xs.items (each (λ argument. argument (scope_of l.names)) (map (λ x. x.value) (map (uses (forbidden_of l.names)) (drop l.argument-index l.arguments))))
 
 abbrev pub invariant-pieces-loop-part : goal.invariant-pieces-loop-part
 invariant-pieces-loop-part l =
-    each (λ part. part (scope_of l.names)) (map piece l.parts) ≡ with_front l.codes (each (λ part. part (scope_of l.names)) (map piece (drop l.part-index l.parts)))
+    each (λ part. part (scope_of l.names)) (map (piece (forbidden_of l.names)) l.parts) ≡ with_front l.codes (each (λ part. part (scope_of l.names)) (map (piece (forbidden_of l.names)) (drop l.part-index l.parts)))
 
 abbrev pub invariant-replacements-loop-part : goal.invariant-replacements-loop-part
 invariant-replacements-loop-part l =
-    replacements (scope_of l.names) (declared l.found) (map given l.parts)
-    ≡ in_front l.replaced.positions l.replaced.wanted l.replaced.values.items (replacements (scope_of l.names) (declared l.found) (map given (drop l.part-index l.parts)))
+    replacements (scope_of l.names) (declared l.found) (map (given (forbidden_of l.names)) l.parts)
+    ≡ in_front l.replaced.positions l.replaced.wanted l.replaced.values.items (replacements (scope_of l.names) (declared l.found) (map (given (forbidden_of l.names)) (drop l.part-index l.parts)))
 
 -- no value so far breaks a rule
 abbrev pub invariant-of_no_record-loop-part : goal.invariant-of_no_record-loop-part
 invariant-of_no_record-loop-part l =
-    of_no_record (map given l.parts) l.wrong (scope_of l.names) ≡ of_no_record (map given (drop l.part-index l.parts)) l.wrong (scope_of l.names)
+    of_no_record (map (given (forbidden_of l.names)) l.parts) l.wrong (scope_of l.names) ≡ of_no_record (map (given (forbidden_of l.names)) (drop l.part-index l.parts)) l.wrong (scope_of l.names)
 
 -- how deep the trees are, and who calls whom at one depth
 abbrev pub decreases-form : goal.decreases-form
@@ -34,11 +35,20 @@ decreases-form l = 8 * goal.size-form l + 0
 abbrev pub decreases-value_called : goal.decreases-value_called
 decreases-value_called l = 8 * goal.size-value_called l + 1
 
+abbrev pub decreases-asked : goal.decreases-asked
+decreases-asked l = 8 * goal.size-asked l + 1
+
 abbrev pub decreases-value : goal.decreases-value
 decreases-value l = 8 * goal.size-value l + 2
 
+abbrev pub decreases-called_form : goal.decreases-called_form
+decreases-called_form l = 8 * goal.size-called_form l + 2
+
+abbrev pub decreases-asked_callee : goal.decreases-asked_callee
+decreases-asked_callee l = 8 * goal.size-asked_callee l + 3
+
 abbrev pub decreases-callee : goal.decreases-callee
-decreases-callee l = 8 * goal.size-callee l + 2
+decreases-callee l = 8 * goal.size-callee l + 4
 
 abbrev pub decreases-values : goal.decreases-values
 decreases-values l = 8 * goal.size-values l + 3

@@ -1,8 +1,9 @@
 use Rattle.std.proofs.Common.{◌≡◌, ◌+◌, ◌*◌, max, map, take, drop, length}
 use Rattle.cs_rules.specs.Judged.{each}
 use Rattle.cs_rules.specs.Statements.{in_order}
-use Rattle.cs_rules.specs.Trees.{statement, section}
-use Rattle.cs_forms.specs.Views.{scope_of}
+use Rattle.cs_forbidden.specs.Trees.{statement}
+use Rattle.cs_forbidden.specs.Forms.{section}
+use Rattle.cs_forms.specs.Views.{scope_of, forbidden_of}
 use Rattle.cs_forms.proofs.FrontLemmas.{with_front}
 use Rattle.cs_check.proofs.statements.+statements.Given as goal
 
@@ -10,17 +11,17 @@ use Rattle.cs_check.proofs.statements.+statements.Given as goal
 abbrev pub invariant-in_order-loop-one : goal.invariant-in_order-loop-one
 invariant-in_order-loop-one l =
     record {
-      scope : l.names.scope ≡ l.fn.names.scope;
+      around : l.names.around ≡ l.fn.names.around;
       kept : take (length l.fn.names.locals) l.names.locals ≡ l.fn.names.locals;
-      codes : in_order (map statement l.body) (scope_of l.fn.names) ≡ with_front l.codes (in_order (map statement (drop l.one-index l.body)) (scope_of l.names));
+      codes : in_order (map (statement (forbidden_of l.fn.names)) l.body) (scope_of l.fn.names) ≡ with_front l.codes (in_order (map (statement (forbidden_of l.fn.names)) (drop l.one-index l.body)) (scope_of l.names));
     }
 
 abbrev pub invariant-sections-loop-it : goal.invariant-sections-loop-it
 invariant-sections-loop-it l =
     record {
-      scope : l.names.scope ≡ l.fn.names.scope;
+      around : l.names.around ≡ l.fn.names.around;
       same : l.names.locals ≡ l.fn.names.locals;
-      codes : each (λ one. one l.decided (scope_of l.fn.names)) (map section l.all) ≡ with_front l.codes (each (λ one. one l.decided (scope_of l.fn.names)) (map section (drop l.it-index l.all)));
+      codes : each (λ one. one l.decided (scope_of l.fn.names)) (map (section (forbidden_of l.fn.names)) l.all) ≡ with_front l.codes (each (λ one. one l.decided (scope_of l.fn.names)) (map (section (forbidden_of l.fn.names)) (drop l.it-index l.all)));
     }
 
 -- how deep the trees are, and who calls whom at one depth
