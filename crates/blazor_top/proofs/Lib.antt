@@ -4,4 +4,5 @@ pub mod PlaceLemmas
 pub mod StopLemmas
 pub mod ReplyLemmas
 pub mod WritingLemmas
+pub mod CheckingLemmas
 pub mod EndingLemmas

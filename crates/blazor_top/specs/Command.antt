@@ -3,7 +3,7 @@ use Rattle.std.specs.Prelude.{ℕ, Bool, false, nat_le, List, [], ◌∷◌, len
 use Rattle.std.specs.Str.{bytes_eq}
 use Rattle.first_click.specs.Options.{◌>>=◌}
 use Rattle.blazor_top.specs.declared.command.Command.{Command}
-use Rattle.blazor_top.specs.declared.command.Command.TheVariants.{Render, Replay}
+use Rattle.blazor_top.specs.declared.command.Command.TheVariants.{Check, Render, Replay}
 
 -- the first character is `-`
 abbrev pub begins_with_dash : List ℕ → Bool
@@ -17,6 +17,11 @@ names_in (word ∷ words) =
     if bytes_eq word (codes "--") then Some words
     else if begins_with_dash word then None
     else names_in words >>= λ names. Some (word ∷ names)
+
+-- `check` takes the names of 1 to 256 files
+abbrev pub check_of : List (List ℕ) → Option Command
+check_of [] = None
+check_of (file ∷ files) = if nat_le (length files) 255 then Some (Check (file ∷ files)) else None
 
 -- `render` takes the name of one file
 abbrev pub render_of : List (List ℕ) → Option Command
@@ -34,6 +39,7 @@ replay_of (schedule ∷ root ∷ others) = if nat_le (length others) 255 then So
 abbrev pub command_of : List (List ℕ) → Option Command
 command_of [] = None
 command_of (word ∷ words) =
-    if bytes_eq word (codes "render") then names_in words >>= render_of
+    if bytes_eq word (codes "check") then names_in words >>= check_of
+    else if bytes_eq word (codes "render") then names_in words >>= render_of
     else if bytes_eq word (codes "replay") then names_in words >>= replay_of
     else None

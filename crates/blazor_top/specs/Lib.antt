@@ -1,6 +1,7 @@
 pub mod Edits
 pub mod Command
 pub mod Reading
+pub mod Checking
 pub mod Program
 pub mod Transcript
 pub mod Reply

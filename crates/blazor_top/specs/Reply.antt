@@ -3,18 +3,21 @@ use Rattle.std.specs.Prelude.{◌≡◌, ℕ, List, [], ◌∷◌, ◌++◌, cod
 use Rattle.std.specs.Fmt.{decimal}
 use Rattle.page_core.specs.Print.{nodes_text}
 use Rattle.first_click.specs.declared.component.Component.{Component}
+use Rattle.razor_ast.specs.declared.component.Component.{Component as Tree}
+use Rattle.component_files.specs.declared.files.SourceFile.{SourceFile}
 use Rattle.first_click.specs.Rendering.{fresh}
 use Rattle.schedule_replay.specs.Every.{Every}
 use Rattle.schedule_replay.specs.Schedule.{schedule_of}
 use Rattle.schedule_replay.specs.declared.schedule.Schedule.{Schedule}
 use Rattle.schedule_replay.specs.declared.schedule.ScheduleFault.TheVariants as fault
 use Rattle.blazor_top.specs.declared.command.Command.{Command}
-use Rattle.blazor_top.specs.declared.command.Command.TheVariants.{Render, Replay}
+use Rattle.blazor_top.specs.declared.command.Command.TheVariants.{Check, Render, Replay}
 use Rattle.blazor_top.specs.declared.status.Status.{Status}
 use Rattle.blazor_top.specs.declared.status.Status.TheVariants as status
 use Rattle.blazor_top.specs.Command.{command_of}
 use Rattle.blazor_top.specs.Program.{HasComponent, HasSchedule, RefusedAt, program_of}
 use Rattle.blazor_top.specs.Reading.{Contents, Named, Holds, IsThere, Lacks, Exceeds, FirstSuch, files_of, schedule_file}
+use Rattle.blazor_top.specs.Checking.{AreHeld, IsRefusedFor, IsSound, sound_line}
 use Rattle.blazor_top.specs.Transcript.{IsTranscriptOf}
 
 -- the page of the component, rendered fresh and printed
@@ -66,18 +69,42 @@ pub record IsReplayed (words : List (List ℕ)) (held : Contents) (lines : List 
   pub spelled : HasComponent held root component
   pub transcript : IsTranscriptOf component schedule lines
 
+-- the words ask whether files are a program, they spell one that breaks no rule, and the line says of how many components
+pub record IsChecked (words : List (List ℕ)) (held : Contents) (lines : List (List ℕ)) : Type 0 where
+  pub names : List (List ℕ)
+  pub files : List SourceFile
+  pub components : List Tree
+  pub asked : command_of words ≡ Some (Check names)
+  pub there : AreHeld held names files
+  pub sound : IsSound files components
+  pub is : lines ≡ sound_line components ∷ []
+
 -- what the words ask for
 abbrev pub IsOutput : List (List ℕ) → Contents → List (List ℕ) → Type 0
-IsOutput words held lines = IsPage words held lines ⊎ IsReplayed words held lines
+IsOutput words held lines = IsPage words held lines ⊎ (IsReplayed words held lines ⊎ IsChecked words held lines)
 
--- all files that the words name are there, and the program is refused at one of them
-pub record IsRefusal (words : List (List ℕ)) (held : Contents) (lines : List (List ℕ)) : Type 0 where
+-- all files that the words name are there, and the program is none of the first-click form, by one of them
+pub record IsNotYet (words : List (List ℕ)) (held : Contents) (lines : List (List ℕ)) : Type 0 where
   pub command : Command
   pub file : List ℕ
   pub asked : command_of words ≡ Some command
   pub there : Every (IsThere held) (files_of command)
   pub refused : RefusedAt held (program_of command) file
   pub is : lines ≡ refused_line file ∷ []
+
+-- the words ask whether files are a program, and they are none
+pub record IsUnsound (words : List (List ℕ)) (held : Contents) (lines : List (List ℕ)) : Type 0 where
+  pub names : List (List ℕ)
+  pub files : List SourceFile
+  pub line : List ℕ
+  pub asked : command_of words ≡ Some (Check names)
+  pub there : AreHeld held names files
+  pub refused : IsRefusedFor files line
+  pub is : lines ≡ line ∷ []
+
+-- the files are no program
+abbrev pub IsRefusal : List (List ℕ) → Contents → List (List ℕ) → Type 0
+IsRefusal words held lines = IsNotYet words held lines ⊎ IsUnsound words held lines
 
 -- the words are no command
 pub record IsUsage (words : List (List ℕ)) (lines : List (List ℕ)) : Type 0 where

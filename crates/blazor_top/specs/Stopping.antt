@@ -3,18 +3,21 @@ use Rattle.std.specs.Prelude.{◌≡◌, ℕ, List, [], ◌∷◌, Result, Ok, E
 use Rattle.outside.specs.declared.files.FileRead.{FileRead}
 use Rattle.outside.specs.declared.files.FileRead.TheVariants as read
 use Rattle.first_click.specs.declared.component.Component.{Component}
+use Rattle.razor_ast.specs.declared.component.Component.{Component as Tree}
+use Rattle.component_files.specs.declared.files.SourceFile.{SourceFile}
 use Rattle.schedule_replay.specs.Schedule.{schedule_of}
 use Rattle.schedule_replay.specs.declared.schedule.Schedule.{Schedule}
 use Rattle.schedule_replay.specs.declared.schedule.ScheduleFault.TheVariants as fault
 use Rattle.schedule_replay.specs.Every.{Every}
 use Rattle.blazor_top.specs.declared.command.Command.{Command}
-use Rattle.blazor_top.specs.declared.command.Command.TheVariants.{Render, Replay}
+use Rattle.blazor_top.specs.declared.command.Command.TheVariants.{Check, Render, Replay}
 use Rattle.blazor_top.specs.declared.refusal.Stop.{Stop}
 use Rattle.blazor_top.specs.declared.refusal.Stop.TheVariants as stop
 use Rattle.blazor_top.specs.declared.status.Status.{Status}
 use Rattle.blazor_top.specs.declared.status.Status.TheVariants as status
 use Rattle.blazor_top.specs.Program.{FileSpells, SpellsNone, HasComponent, HasSchedule, RefusedAt, program_of}
 use Rattle.blazor_top.specs.Reading.{Contents, Named, Holds, IsThere, Lacks, Exceeds, FirstSuch, files_of, schedule_file}
+use Rattle.blazor_top.specs.Checking.{AreHeld, IsRefusedFor, IsSound, sound_line}
 use Rattle.blazor_top.specs.Reply.{page_line, refused_line, missing_line, unread_line, too_large_line, Unscheduled}
 use Rattle.blazor_top.specs.Transcript.{IsTranscriptOf}
 
@@ -85,8 +88,18 @@ pub data PlaysNot (name root : List ℕ) (planned spelled : List ℕ) : List (Li
   at_plan : (component : Component) (got : Status) (line : List ℕ) → FileSpells root spelled component → NoSchedule name planned got line
       → PlaysNot name root planned spelled [] got line
 
+-- the files are refused as a program with this line
+abbrev pub RefusesFor : List SourceFile → Status → List ℕ → Type 0
+RefusesFor files got line = (got ≡ status.Refused) × IsRefusedFor files line
+
+-- the files are a program that breaks no rule, and the line says of how many components
+abbrev pub Sounds : List SourceFile → List (List ℕ) → Type 0
+Sounds files lines = (components : List Tree) × IsSound files components × (lines ≡ sound_line components ∷ [])
+
 -- what a command asks for
 abbrev pub CommandOutput : Contents → Command → List (List ℕ) → Type 0
+CommandOutput held (Check names) lines =
+    (files : List SourceFile) × AreHeld held names files × Sounds files lines
 CommandOutput held (Render file) lines = (component : Component) × HasComponent held file component × (lines ≡ page_line component ∷ [])
 CommandOutput held (Replay name root others) lines =
     (schedule : Schedule) × (component : Component) × (others ≡ []) × HasSchedule held name (Ok schedule) × HasComponent held root component
@@ -97,5 +110,7 @@ pub data CommandRefused (held : Contents) (rose : Type 0) : Command → Status �
   at_file : (command : Command) (got : Status) (line : List ℕ) → Stopped held rose (files_of command) got line → CommandRefused held rose command got line
   at_program : (command : Command) (file : List ℕ) → Every (IsThere held) (files_of command) → RefusedAt held (program_of command) file
       → CommandRefused held rose command status.Refused (refused_line file)
+  at_rules : (names : List (List ℕ)) (files : List SourceFile) (line : List ℕ) → AreHeld held names files → IsRefusedFor files line
+      → CommandRefused held rose (Check names) status.Refused line
   at_schedule : (name root bytes : List ℕ) (component : Component) (got : Status) (line : List ℕ) → HasComponent held root component
       → Holds held (schedule_file name) bytes → NoSchedule name bytes got line → CommandRefused held rose (Replay name root []) got line

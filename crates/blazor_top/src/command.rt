@@ -1,6 +1,6 @@
 // The words of the command line.
 ghost use Rattle.std.specs.Prelude.{◌≡◌, ◌++◌, IfOk, OnOk};
-ghost use Rattle.blazor_top.specs.Command.{begins_with_dash, command_of, names_in, render_of, replay_of};
+ghost use Rattle.blazor_top.specs.Command.{begins_with_dash, check_of, command_of, names_in, render_of, replay_of};
 
 use sqlite_items::Items;
 use std::alloc::Global;
@@ -9,9 +9,16 @@ use text_core::{Oom, Txt};
 /// The most files that a program may have beside its root.
 const MOST_OTHERS: usize = 255;
 
+/// The most files that a program may have.
+const MOST_FILES: usize = 256;
+
 /// What the words of the command line ask for.
 #[derive(Debug, Drop)]
 pub enum Command {
+    /// Whether the files are a program, and of how many components.
+    Check {
+        files: Items<Txt>,
+    },
     /// The first page of the component that a file spells.
     Render {
         file: Txt,
@@ -31,6 +38,9 @@ pub fn command_of(alloc: Global, words: &[Txt]) -> Result<Option<Command>, Oom>
     let [word, rest @ ..] = words else {
         return Ok(None);
     };
+    if word.is("check") {
+        return Ok(names_in(alloc, rest)?.and_then(check_of));
+    }
     if word.is("render") {
         return Ok(names_in(alloc, rest)?.and_then(render_of));
     }
@@ -38,6 +48,15 @@ pub fn command_of(alloc: Global, words: &[Txt]) -> Result<Option<Command>, Oom>
         return Ok(names_in(alloc, rest)?.and_then(replay_of));
     }
     Ok(None)
+}
+
+fn check_of(names: Items<Txt>) -> Option<Command>
+    ensures { result ≡ check_of names }
+{
+    if names.is_empty() || names.len() > MOST_FILES {
+        return None;
+    }
+    Some(Command::Check { files: names })
 }
 
 fn render_of(names: Items<Txt>) -> Option<Command>

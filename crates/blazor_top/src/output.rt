@@ -6,9 +6,10 @@ ghost use Rattle.blazor_top.specs.Reply.{page_line, usage_line, IsOutput, Replie
 ghost use Rattle.blazor_top.specs.Stopping.{CommandOutput, CommandRefused, OnRefusal, Refuses};
 ghost use Rattle.blazor_top.specs.declared.command.Command.TheVariants as command;
 
+use crate::checking::checked;
 use crate::command::{Command, command_of};
 use crate::playing::{component_of, play};
-use crate::reading::{read_component, read_sources};
+use crate::reading::{read_component, read_program, read_sources};
 use crate::refusal::{Stop, refused_with};
 use crate::rendering::page_of;
 use crate::status::Status;
@@ -24,6 +25,18 @@ fn usage(alloc: Global) -> Stop
     ensures { Refuses result Status.Usage usage_line }
 {
     refused_with(alloc, Status::Usage, "usage: blazor COMMAND ARGUMENTS")
+}
+
+/// Whether the files are a program.
+fn check<F: Files>(alloc: Global, files: &mut F, names: &[Txt]) -> Result<Vec<Txt>, Stop>
+    ensures output { IfOk result (λ lines. CommandOutput (F.held files.old) (command.Check names.now) lines.items) }
+    ensures refused { OnRefusal result (CommandRefused (F.held files.old)
+        (Rose (F.fault_count files.old) (F.fault_count files.new)) (command.Check names.now)) }
+    ensures same { F.held files.new ≡ F.held files.old }
+    ensures later { F.fault_count files.old ≤ F.fault_count files.new }
+{
+    let sources = read_program(alloc, files, names)?;
+    checked(alloc, &sources)
 }
 
 /// The page of a component, as the only line.
@@ -79,6 +92,7 @@ pub fn output_of<F: Files>(alloc: Global, words: &[Txt], files: &mut F) -> Resul
 {
     match command_of(alloc, words)? {
         None => Err(usage(alloc)),
+        Some(Command::Check { files: names }) => check(alloc, files, names.as_slice()),
         Some(Command::Render { file }) => render(alloc, files, &file),
         Some(
             Command::Replay {

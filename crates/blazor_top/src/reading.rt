@@ -1,5 +1,6 @@
 // The files that a command names, read in the order of the words.
 ghost use Rattle.std.specs.Prelude.{◌≡◌, ◌≤◌, map, IfOk};
+ghost use Rattle.blazor_top.specs.Checking.{AreHeld};
 ghost use Rattle.outside.specs.Faults.{Rose};
 ghost use Rattle.outside.specs.declared.files.FileRead.TheVariants as read;
 ghost use Rattle.schedule_replay.specs.Every.{Every};
@@ -9,6 +10,7 @@ ghost use Rattle.blazor_top.specs.declared.command.Command.TheVariants as comman
 
 use crate::refusal::{Stop, about};
 use crate::status::Status;
+use component_files::SourceFile;
 use outside::{FileRead, Files};
 use sqlite_items::Items;
 use std::alloc::Global;
@@ -67,6 +69,29 @@ pub fn read_component<F: Files>(alloc: Global, files: &mut F, name: &Txt) -> Res
     ensures later { F.fault_count files.old ≤ F.fault_count files.new }
 {
     read_file(alloc, files, name, COMPONENT_LIMIT)
+}
+
+/// Reads the files of a program.
+pub fn read_program<F: Files>(
+    alloc: Global,
+    files: &mut F,
+    names: &[Txt],
+) -> Result<Vec<SourceFile>, Stop>
+    ensures held { IfOk result (λ sources. AreHeld (F.held files.old) names.now sources.items) }
+    ensures stopped { OnRefusal result (Stopped (F.held files.old)
+        (Rose (F.fault_count files.old) (F.fault_count files.new)) (map component_file names.now)) }
+    ensures same { F.held files.new ≡ F.held files.old }
+    ensures later { F.fault_count files.old ≤ F.fault_count files.new }
+{
+    let mut sources = Vec::new(alloc);
+    for name in names {
+        let bytes = read_component(alloc, files, name)?;
+        sources.push(SourceFile {
+            name: name.clone()?,
+            bytes,
+        })?;
+    }
+    Ok(sources)
 }
 
 /// Reads files of components, to see that they are there.

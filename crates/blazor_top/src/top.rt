@@ -65,7 +65,7 @@ fn answer<F: Files, S: Sink>(alloc: Global, words: &[Txt], files: &mut F, out: &
 /// Does all that the program does: reads what the words name, writes what they ask for or why there is none, and says
 /// with which status the process is to end.
 pub fn run<F: Files, S: Sink>(alloc: Global, words: &[Txt], files: &mut F, out: &mut S) -> Finished
-    // What the words ask for is written whole: the page of the fresh rendering of the component that the file spells, or the
+    // What the words ask for is written whole: of how many components an accepted program is, the page of the fresh rendering of the component that the file spells, or the
     // transcript of the schedule over that component.
     ensures answered { result.status ≡ 0 → Wrote (S.written out.old) (S.written out.new) (IsOutput words.now (F.held files.old)) }
 
