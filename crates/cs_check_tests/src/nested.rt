@@ -21,7 +21,7 @@ fn part(alloc: Global, text: &str, cs_type: TypeExpr) -> Result<Argument, Oom> {
 
 /// The type of the parts of a record: the next one, and behind the last a number, or a list of them.
 fn part_type(alloc: Global, number: u32, of_lists: bool) -> Result<TypeExpr, Oom> {
-    if number + 1 < DEPTH {
+    if number < DEPTH - 1 {
         let next = record_name(alloc, number + 1)?;
         return Ok(TypeExpr {
             place: at(1),

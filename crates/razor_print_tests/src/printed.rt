@@ -35,11 +35,23 @@ fn prints_content(rt: HostRuntime) -> Result<(), Fail> {
             ("", ""),
             ("a@b.c @@ @(1+2)x", "a@@b.c @@ @(1 + 2 )x"),
             ("<p>@n</p>x@@@n", "<p>@(n )</p>x@@@(n )"),
-            ("<br><my-tag></my-tag> <C><T>a</T></C>", "<br/><my-tag/> <C><T>a</T></C>"),
-            ("@implements IDisposable\n@page \"/\"\nx", "@implements IDisposable\nx"),
-            ("@using A\na&amp;b @code { int n; }", "a&amp;b @code{ int n ; }"),
+            (
+                "<br><my-tag></my-tag> <C><T>a</T></C>",
+                "<br/><my-tag/> <C><T>a</T></C>",
+            ),
+            (
+                "@implements IDisposable\n@page \"/\"\nx",
+                "@implements IDisposable\nx",
+            ),
+            (
+                "@using A\na&amp;b @code { int n; }",
+                "a&amp;b @code{ int n ; }",
+            ),
             ("a @code { } b", "a @code{ } b"),
-            ("a@**@@code { }b@**@@code { int n; }", "a@**@@code{ }b@**@@code{ int n ; }"),
+            (
+                "a@**@@code { }b@**@@code { int n; }",
+                "a@**@@code{ }b@**@@code{ int n ; }",
+            ),
         ],
     )
 }
@@ -53,11 +65,23 @@ fn prints_code_with_markup(rt: HostRuntime) -> Result<(), Fail> {
         &[
             ("a@**@@if (b) { }", "a@**@@if ( b ) { }"),
             ("@if (b) { }@**@ else c", "@if ( b ) { }@**@ else c"),
-            ("@if (b) { <i/> } else { n = 1; }", "@if ( b ) { <i/>}else { n = 1 ; }"),
-            ("@{ @:x @n\n <text>y</text> @n }", "@{ <text>x @(n )</text><text>y</text>@(n )}"),
-            ("@foreach (var x in y) { if (x) F(x); }", "@foreach ( var x in y ) { if ( x ) F ( x ) ; }"),
+            (
+                "@if (b) { <i/> } else { n = 1; }",
+                "@if ( b ) { <i/>}else { n = 1 ; }",
+            ),
+            (
+                "@{ @:x @n\n <text>y</text> @n }",
+                "@{ <text>x @(n )</text><text>y</text>@(n )}",
+            ),
+            (
+                "@foreach (var x in y) { if (x) F(x); }",
+                "@foreach ( var x in y ) { if ( x ) F ( x ) ; }",
+            ),
             ("@for (;;) { break; }", "@for ( ; ; ) { break ; }"),
-            ("@switch (n) { case -1: <i/> break; }", "@switch ( n ) { case - 1 : <i/>break ; }"),
+            (
+                "@switch (n) { case -1: <i/> break; }",
+                "@switch ( n ) { case - 1 : <i/>break ; }",
+            ),
         ],
     )
 }
@@ -70,10 +94,22 @@ fn prints_attributes(rt: HostRuntime) -> Result<(), Fail> {
         alloc,
         &[
             ("<a b c=d e='f\"@n'/>", "<a b=\"\" c=\"d\" e='f\"@(n )'/>"),
-            ("<a @key=\"k\" @onclick=\"F\"/>", "<a @key='k ' @onclick=\"@(F )\"/>"),
-            ("<a @bind=\"s\" @bind:event=\"oninput\"/>", "<a @bind=\"s \" @bind:event=\"oninput\"/>"),
-            ("<C A=\"1\" B=\"@n\" D Context=\"x\"/>", "<C A=\"1\" B=\"@(n )\" D Context=\"x\"/>"),
-            ("<C A=\"a@(f(\"x\"))'\" B='p@(\"y\")\"'/>", "<C A=\"a@(f(\"x\"))'\" B='p@(\"y\")\"'/>"),
+            (
+                "<a @key=\"k\" @onclick=\"F\"/>",
+                "<a @key='k ' @onclick=\"@(F )\"/>",
+            ),
+            (
+                "<a @bind=\"s\" @bind:event=\"oninput\"/>",
+                "<a @bind=\"s \" @bind:event=\"oninput\"/>",
+            ),
+            (
+                "<C A=\"1\" B=\"@n\" D Context=\"x\"/>",
+                "<C A=\"1\" B=\"@(n )\" D Context=\"x\"/>",
+            ),
+            (
+                "<C A=\"a@(f(\"x\"))'\" B='p@(\"y\")\"'/>",
+                "<C A=\"a@(f(\"x\"))'\" B='p@(\"y\")\"'/>",
+            ),
         ],
     )
 }
