@@ -92,12 +92,14 @@ fn keeps_their_order(rt: HostRuntime) -> Result<(), Fail> {
 fn takes_256_files(rt: HostRuntime) -> Result<(), Fail> {
     let alloc = rt.alloc();
     let mut files = all_files(alloc, &[("s.json", "{\"steps\":[]}"), ("A.razor", "x")])?;
-    for (count, status, written) in [
-        (1, 0, "done 0\n"),
-        (256, 1, "refused NotYet A.razor 1:1\n"),
-        (257, 2, USAGE),
+    for (command, count, status, written) in [
+        (["replay", "s.json"].as_slice(), 1, 0, "done 0\n"),
+        (&["replay", "s.json"], 256, 1, "refused NotYet A.razor 1:1\n"),
+        (&["replay", "s.json"], 257, 2, USAGE),
+        (&["check"], 256, 1, "refused DuplicateComponent A.razor 1:1\n"),
+        (&["check"], 257, 2, USAGE),
     ] {
-        let mut words = texts(alloc, &["replay", "s.json"])?;
+        let mut words = texts(alloc, command)?;
         for _ in 0..count {
             words.push(Txt::from_str(alloc, "A.razor")?)?;
         }
