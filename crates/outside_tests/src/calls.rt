@@ -1,5 +1,5 @@
 // Calls on their happy path and at a fault, through the traits.
-use crate::{FileRead, Files, MemFiles, MemSink, Output, Sink, SystemFiles, Wrote};
+use outside::{FileRead, Files, MemFiles, MemSink, Output, Sink, SystemFiles, Wrote};
 use std::alloc::Global;
 use std::fs;
 use std::process::Abort;

@@ -1,5 +1,5 @@
 // Values at examples: their sizes by hand, and that each call can succeed.
-use crate::{Bodies, Code, Value, same, show, size};
+use cs_ast::{Bodies, Code, Value, same, show, size};
 use sqlite_items::Items;
 use std::alloc::Global;
 use std::test::Fail;

@@ -1,5 +1,5 @@
 // An arena of two slots, by hand: what its handles find, and which slots it uses.
-use crate::{Arena, Full, Handle};
+use gen_arena::{Arena, Full, Handle};
 use std::process::Abort;
 use std::test::Fail;
 

@@ -1,7 +1,7 @@
 // The stage and the screen, through their traits.
 ghost use Rattle.std.specs.Prelude.{◌≡◌, ◌+◌, OnOk};
 
-use crate::{CounterScreen, CounterStage, CounterTree};
+use counter_stage::{CounterScreen, CounterStage, CounterTree};
 use hub_messages::{Acted, At, CircuitFault, Made, Outcome, Screen, ScreenFault, Stage};
 use page_core::{BatchFault, Counts};
 use std::alloc::Global;

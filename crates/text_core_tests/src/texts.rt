@@ -1,5 +1,5 @@
 // What the definitions come to at examples, and that each call can succeed.
-use crate::{Oom, Place, Txt, read_i32, show_i32};
+use text_core::{Oom, Place, Txt, read_i32, show_i32};
 use std::alloc::Global;
 use std::cmp::Ordering;
 use std::test::Fail;

@@ -5,7 +5,7 @@ ghost use Rattle.cs_meaning.specs.FirstForms.{IsStatement};
 ghost use Rattle.plain_page.specs.Runnable.{IsRunnable};
 ghost use Rattle.first_click.specs.Weight.{weight};
 
-use crate::{PlainScreen, PlainStage};
+use plain_page::{PlainScreen, PlainStage};
 use cs_ast::{Code, StepOp, Variable};
 use first_click::{Component, Field, Item, Method};
 use hub_messages::{Acted, At, Bytes, Made, Outcome, PrintScreen, Screen, ScreenFault, Stage};

@@ -2,7 +2,7 @@
 ghost use Rattle.std.specs.Prelude.{◌≤◌, length, IsTrue};
 ghost use Rattle.hub_messages.specs.Spelling.Messages.{up_bytes, down_bytes};
 
-use crate::{
+use hub_messages::{
     Bytes, CircuitFault, Down, HubFault, Outcome, Refusal, Up, decode_down, decode_up, encode_down,
     encode_up,
 };
@@ -12,7 +12,7 @@ use std::test::Fail;
 use text_core::Txt;
 
 // Whether the message is short enough to be spelled.
-#[tactic(auto, using(crate::proofs::SizeLemmas::up_short))]
+#[tactic(auto, using(hub_messages::proofs::SizeLemmas::up_short))]
 fn is_short_up(message: &Up) -> bool
     ensures { IsTrue result → length (up_bytes message.now) ≤ 33554432 }
 {
@@ -30,7 +30,7 @@ fn is_short_up(message: &Up) -> bool
     }
 }
 
-#[tactic(auto, using(crate::proofs::SizeLemmas::down_short))]
+#[tactic(auto, using(hub_messages::proofs::SizeLemmas::down_short))]
 fn is_short_down(message: &Down) -> bool
     ensures { IsTrue result → length (down_bytes message.now) ≤ 33554432 }
 {

@@ -1,5 +1,5 @@
 // What pages print, and what is found by a name.
-use crate::{Attributes, HandlerIds, Node, Page, is_void, print};
+use page_core::{Attributes, HandlerIds, Node, Page, is_void, print};
 use sqlite_items::Items;
 use std::alloc::Global;
 use std::test::Fail;

@@ -1,5 +1,5 @@
 // Bytes of numbers and texts, by hand, and that each call can succeed.
-use crate::{Txt, WireFault, put_text, put_u32, put_u64, take_text, take_u32, take_u64};
+use text_core::{Txt, WireFault, put_text, put_u32, put_u64, take_text, take_u32, take_u64};
 use std::alloc::Global;
 use std::test::Fail;
 

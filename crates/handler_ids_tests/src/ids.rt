@@ -1,5 +1,5 @@
 // Ids of a few handlers, by hand.
-use crate::{Found, HandlerValue, Handlers};
+use handler_ids::{Found, HandlerValue, Handlers};
 use cs_ast::Value;
 use sqlite_items::Items;
 use std::alloc::Global;

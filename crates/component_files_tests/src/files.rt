@@ -1,5 +1,5 @@
 // Files in a row, and what is read of them.
-use crate::{FileFault, SourceFile, Unreadable, read_files};
+use component_files::{FileFault, SourceFile, Unreadable, read_files};
 use std::alloc::Global;
 use std::process::Abort;
 use std::test::Fail;
