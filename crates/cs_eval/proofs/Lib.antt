@@ -1,4 +1,3 @@
-pub mod TextLemmas
 pub mod ArgumentLemmas
 pub mod PartLemmas
 pub mod OutcomeLemmas

@@ -14,10 +14,10 @@ use Rattle.frame_core.specs.declared.item.Item.TheVariants as item
 use Rattle.frame_core.specs.declared.item.Item.TheFolds.{fold-roll-Item}
 use Rattle.razor_ast.specs.declared.component.Component.{Component}
 use Rattle.razor_ast.specs.declared.node.TNode.{TNode-F, roll-TNode}
-use Rattle.page_meaning.specs.Drawing.{begun, begun_at}
+use Rattle.drawing_meaning.specs.Drawing.{begun, begun_at}
 use Rattle.page_meaning.specs.Fresh.{fresh_alone, page, shown_item, shown_layer, Shows, items_shown, then_all, nodes_of}
 use Rattle.page_meaning.specs.Items.{items_from}
-use Rattle.page_meaning.specs.Keys.{siblings}
+use Rattle.drawing_meaning.specs.Keys.{siblings}
 use Rattle.page_meaning.specs.Nodes.{element, text}
 use Rattle.page_meaning.proofs.PartLaws.{part_law}
 

@@ -1,7 +1,5 @@
-pub mod Drawing
-pub mod Keys
+pub mod Resolved
 pub mod Captures
-pub mod Stages
 pub mod Callbacks
 pub mod Attributes
 pub mod Nodes

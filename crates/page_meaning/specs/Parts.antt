@@ -1,4 +1,4 @@
--- What templates make: by recursion on their nodes.
+-- What templates come to: by recursion on their nodes.
 use Rattle.std.specs.Prelude.{ℕ, ◌||◌, Bool, true, false, not, codes, is_some, List, [], ◌∷◌, ◌++◌, map, filter, if◌then◌else◌, Option, Some, None, option_map}
 use Rattle.std.specs.Option.{option_or}
 use Rattle.std.specs.List.{list_any, list_all, flat_map}
@@ -11,8 +11,8 @@ use Rattle.cs_ast.specs.declared.scope.Scope.{Scope}
 use Rattle.cs_effects.specs.declared.deed.Deed.{Deed}
 use Rattle.cs_meaning.specs.Sections.{Section}
 use Rattle.cs_rules.specs.Expressions.{items_of}
-use Rattle.cs_rules.specs.Judged.{Judged, fine, breaks}
-use Rattle.cs_rules.specs.Judged.{◌>>=◌ as ◌>>>=◌}
+use Rattle.cs_rules.specs.Judged.{Judged, fine, breaks, each, known, ◌>>=◌}
+use Rattle.cs_rules.specs.declared.rule.Rule.TheVariants.{UnknownComponent}
 use Rattle.cs_rules.specs.Names.{with_local}
 use Rattle.cs_rules.specs.Statements.{started}
 use Rattle.cs_rules.specs.Trees.{value_in, statement}
@@ -23,30 +23,28 @@ use Rattle.razor_ast.specs.declared.attribute.AttributeKind.TheVariants as ak
 use Rattle.razor_ast.specs.declared.node.TNode.{TNode}
 use Rattle.razor_ast.specs.declared.node.TNode.TheOpen.{TNode-F}
 use Rattle.razor_ast.specs.declared.node.TNode.TheFolds.{fold-TNode}
-use Rattle.razor_rules.specs.Numbers.{number_at}
 use Rattle.razor_rules.specs.Parameters.{Tagged, tagged, fragment_taken}
 use Rattle.razor_rules.specs.Scopes.{Home, member_scope}
 use Rattle.razor_rules.specs.TemplateDeeds.{if_any, expression_does, statement_does, attributes_do}
 use Rattle.razor_rules.specs.Tags.{context_in, context_name}
 use Rattle.razor_rules.specs.Templates.{option_list}
-use Rattle.frame_core.specs.declared.item.Item.{Item}
-use Rattle.frame_core.specs.declared.item.ItemParameter.{ItemParameter}
+use Rattle.drawing_meaning.specs.Acts.{Act}
+use Rattle.drawing_meaning.specs.Tags as act
+use Rattle.drawing_meaning.specs.Tags.{Gives}
 use Rattle.page_meaning.specs.Captures.{used, with_captured}
-use Rattle.page_meaning.specs.Drawing.{Draws, stuck, done, pay, ◌>>=◌}
-use Rattle.page_meaning.specs.Stages.{Stage, Output, output, joined, if_fine}
 use Rattle.cs_ast.specs.declared.cs_type.CsType.TheVariants as t
 use Rattle.cs_typing.specs.Types.{Signature}
 use Rattle.cs_typing.specs.Values.{awaited}
-use Rattle.page_meaning.specs.Placed.{Placed, signature, types_of, template, element_placed, attributes_placed}
+use Rattle.page_meaning.specs.Placed.{Placed, signature, types_of, template_if_fine, element_placed, attributes_placed}
 use Rattle.page_meaning.specs.Nodes as node
-use Rattle.page_meaning.specs.Nodes.{Makes, ended}
+use Rattle.page_meaning.specs.Resolved.{Makes, place_at}
 use Rattle.page_meaning.specs.Tags as tags
 use Rattle.page_meaning.specs.Tags.{Target, target_of}
 
--- what stands in a tag: what it does besides computing, what it makes as a list of its own, and what is placed in it
+-- what stands in a tag: what it does besides computing, what it comes to as a list of its own, and what is placed in it
 pub record Content : Type 0 where
   pub does : Deed → Bool
-  pub makes : Stage → Scope → Draws (List Item)
+  pub makes : Makes
   pub placed : Home → Scope → List (ℕ × Placed)
 
 -- a tag that may be that of a fragment: its number, its name, the place of its `<`, the name that it gives to the argument, if it does, and its content
@@ -57,7 +55,7 @@ pub record Tag : Type 0 where
   pub context : Option Ident
   pub content : Content
 
--- a part of a template: whether it is a text of white space alone; the tag that it is, if it may be that of a fragment; its number where it is a tag with a key; the number of the tag whose key is that of a turn with this body; what it does besides computing; what it makes, and the scope behind it; and the bodies and the templates of fragments in it, by their numbers
+-- a part of a template: whether it is a text of white space alone; the tag that it is, if it may be that of a fragment; its number where it is a tag with a key; the number of the tag whose key is that of a turn with this body; what it does besides computing; what it comes to, and the scope behind it; and the bodies and the templates of fragments in it, by their numbers
 pub record Part : Type 0 where
   pub blank : Bool
   pub tag : Option Tag
@@ -68,17 +66,14 @@ pub record Part : Type 0 where
   pub behind : Scope → Judged Scope
   pub placed : Home → Scope → List (ℕ × Placed)
 
-abbrev pub unless_broke : Output → Draws Output → Draws Output
-unless_broke out next = if out.broke then done out else (do
-  other ← next
-  done (joined out other))
-
--- parts one after another, each in the scope behind those before it, up to a `break`
+-- parts one after another, each in the scope behind those before it
 abbrev pub in_order : List Part → Makes
-in_order [] stage s = done (output [])
-in_order (one ∷ others) stage s = do
-  out ← one.makes stage s
-  unless_broke out (if_fine (one.behind s) (in_order others stage))
+in_order [] home s = fine []
+in_order (one ∷ others) home s = do
+  acts ← one.makes home s
+  inner ← one.behind s
+  more ← in_order others home inner
+  fine (acts ++ more)
 
 abbrev pub placed_behind : Judged Scope → (Scope → List (ℕ × Placed)) → List (ℕ × Placed)
 placed_behind (fine s) next = next s
@@ -97,14 +92,8 @@ abbrev pub first_keyed : List Part → Option ℕ
 first_keyed [] = None
 first_keyed (one ∷ others) = option_or one.keyed (first_keyed others)
 
--- siblings, one after another
-abbrev pub siblings_of : List Part → Stage → Scope → Draws (List Item)
-siblings_of parts stage s = do
-  out ← in_order parts stage s
-  ended out
-
 abbrev pub content_of : List Part → Content
-content_of parts = record { does = any_does parts; makes = siblings_of parts; placed = placed_in parts }
+content_of parts = record { does = any_does parts; makes = in_order parts; placed = placed_in parts }
 
 abbrev pub nothing_placed : Home → Scope → List (ℕ × Placed)
 nothing_placed home s = []
@@ -141,8 +130,8 @@ fragment_signature home s content argument = signature home (types_of (used cont
 -- a fragment at a number of the content: its own template, and those in it
 abbrev pub fragment_placed : Home → Scope → ℕ → Content → Option CsType → Ident → List (ℕ × Placed)
 fragment_placed home s number content argument name =
-    (number_at home.first home.members number, template (fragment_signature home s content argument) (record { home = home; makes = λ stage. content.makes stage (fragment_scope home s content argument name) }))
-    ∷ content.placed home (fragment_scope home s content argument name)
+    template_if_fine (place_at home number) (fragment_signature home s content argument) (content.makes home (fragment_scope home s content argument name))
+    ++ content.placed home (fragment_scope home s content argument name)
 
 -- the content of a component's tag: the tags of fragments, or all of it for `ChildContent`
 pub data Inside : Type 0 where
@@ -172,29 +161,26 @@ abbrev pub tag_placed : Option Tagged → List Part → Home → Scope → ℕ �
 tag_placed None parts home s number place outer = []
 tag_placed (Some around) parts home s number place outer = placed_inside (inside around parts) around home s number place outer
 
--- what the tags of fragments give, one after another
-abbrev pub tag_gifts : List Tag → Target → Stage → Scope → Draws (List ItemParameter)
-tag_gifts [] target stage s = done []
-tag_gifts (one ∷ others) target stage s = do
-  paid ← pay
-  first ← tags.fragment_gift stage s target one.name one.number (used one.content.does s)
-  rest ← tag_gifts others target stage s
-  done (first ∷ rest)
+module _ (target : Target) (home : Home) (s : Scope) where
+  -- what the content of a component's tag gives
+  abbrev pub gifts_inside : Inside → ℕ → Place → Judged (List Gives)
+  gifts_inside (tags_of inner) number place = each (λ (one : Tag). tags.fragment_gift home s target one.place one.name one.number (used one.content.does s)) inner
+  gifts_inside (loose content) number place = do
+    it ← tags.content_gift home s target place (codes "ChildContent") number (used content.does s)
+    fine (it ∷ [])
 
-abbrev pub gifts_inside : Inside → ℕ → Target → Stage → Scope → Draws (List ItemParameter)
-gifts_inside (tags_of tags) number target stage s = tag_gifts tags target stage s
-gifts_inside (loose content) number target stage s = do
-  first ← tags.fragment_gift stage s target (codes "ChildContent") number (used content.does s)
-  done (first ∷ [])
-
-abbrev pub component_of : ℕ → List Attribute → List Part → Option Tagged → Option Target → Makes
-component_of number attributes parts (Some around) (Some target) stage s = tags.component number stage s target attributes (gifts_inside (inside around parts) number target stage s)
-component_of number attributes parts _ _ stage s = λ d. stuck
+  abbrev pub component_of : ℕ → Place → List Attribute → Inside → Judged (List Act)
+  component_of number place attributes within = do
+    first ← tags.attribute_gifts home s target attributes
+    more ← gifts_inside within number place
+    fine (act.component number target.made (first ++ more) ∷ [])
 
 -- the tag of a component
-unfoldable pub component : ℕ → List ℕ → List Attribute → List Part → Makes
-component number name attributes parts stage s =
-    component_of number attributes parts (tagged stage.home name) (target_of stage.home.components s name attributes) stage s
+unfoldable pub component : ℕ → Place → Ident → List Attribute → List Part → Makes
+component number place name attributes parts home s = do
+  around ← known UnknownComponent name.place (tagged home name.name)
+  target ← known UnknownComponent name.place (target_of home.components s name.name attributes)
+  component_of target home s number place attributes (inside around parts)
 
 abbrev pub is_key : AttributeKind → Bool
 is_key (ak.Key a) = true
@@ -205,15 +191,15 @@ abbrev pub keyed_tag : ℕ → List Attribute → Option ℕ
 keyed_tag number attributes = if list_any (λ one. is_key one.kind) attributes then Some number else None
 
 abbrev pub behind_statement : Stmt → Scope → Judged Scope
-behind_statement one s = statement one s >>>= λ it. fine it.scope
+behind_statement one s = statement one s >>= λ it. fine it.scope
 
 -- the scope behind the start of a `for`
 abbrev pub behind_start : Option Stmt → Scope → Judged Scope
-behind_start start s = started (option_map statement start) s >>>= λ it. fine it.1
+behind_start start s = started (option_map statement start) s >>= λ it. fine it.1
 
 -- the scope in a turn of a `foreach`
 abbrev pub behind_item : List ℕ → Expr → Scope → Judged Scope
-behind_item name list s = value_in s list >>>= λ x. items_of x.place x.expr_type >>>= λ item. fine (with_local s name item)
+behind_item name list s = value_in s list >>= λ x. items_of x.place x.expr_type >>= λ item. fine (with_local s name item)
 
 -- a section of a `switch`: what it does besides computing, its labels with what it makes, and what is placed in it
 pub record Part_of_switch : Type 0 where
@@ -224,7 +210,7 @@ pub record Part_of_switch : Type 0 where
 -- a node, by its parts
 abbrev pub part : TNode-F Part Part_of_switch → Part
 part (TNode-F.Element number place name attributes children) =
-    record (plain (λ deed. attributes_do deed attributes || any_does children deed) (node.element number name.name attributes (siblings_of children)) (λ home s. element_placed attributes home s ++ placed_in children home s)) { keyed = keyed_tag number attributes }
+    record (plain (λ deed. attributes_do deed attributes || any_does children deed) (node.element number name.name attributes (in_order children)) (λ home s. element_placed attributes home s ++ placed_in children home s)) { keyed = keyed_tag number attributes }
 part (TNode-F.Child number place name attributes children) =
     record {
       blank = false;
@@ -232,7 +218,7 @@ part (TNode-F.Child number place name attributes children) =
       keyed = keyed_tag number attributes;
       turn_key = None;
       does = λ deed. attributes_do deed attributes || any_does children deed;
-      makes = component number name.name attributes children;
+      makes = component number place name attributes children;
       behind = fine;
       placed = λ home s. attributes_placed (tagged home name.name) attributes home s ++ tag_placed (tagged home name.name) children home s number place (context_in attributes);
     }

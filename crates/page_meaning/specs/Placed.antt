@@ -38,21 +38,14 @@ use Rattle.razor_rules.specs.Parameters as tags
 use Rattle.razor_rules.specs.Scopes.{Home, member_scope, with_arguments, with_result}
 use Rattle.razor_rules.specs.TemplateDeeds.{expression_does}
 use Rattle.razor_rules.specs.Values.{Level, lambda_scope}
-use Rattle.frame_core.specs.declared.item.Item.{Item}
+use Rattle.drawing_meaning.specs.Acts.{Act}
 use Rattle.page_meaning.specs.Captures.{used, with_captured}
-use Rattle.page_meaning.specs.Drawing.{Draws}
-use Rattle.page_meaning.specs.Stages.{Stage}
 use Rattle.page_meaning.specs.Tags.{expression_in}
 
--- the template of a fragment: whose code it is, and what it makes
-pub record Template : Type 0 where
-  pub home : Home
-  pub makes : Stage → Draws (List Item)
-
--- what has a number: a body, with the types of the locals that it begins with and of its result; or a template, with those of its locals
+-- what has a number: a body, with the types of the locals that it begins with and of its result; or a template, with those of its locals and what it does
 pub data Placed : Type 0 where
   body : Signature → Code → Placed
-  template : Signature → Template → Placed
+  template : Signature → List Act → Placed
 
 abbrev pub signature : Home → List CsType → CsType → Signature
 signature home locals result = record { component = home.position; locals = locals; result = result }
@@ -60,6 +53,10 @@ signature home locals result = record { component = home.position; locals = loca
 abbrev pub body_if_fine : ℕ → Signature → Judged Code → List (ℕ × Placed)
 body_if_fine number s (fine code) = (number, body s code) ∷ []
 body_if_fine number s (breaks rule place) = []
+
+abbrev pub template_if_fine : ℕ → Signature → Judged (List Act) → List (ℕ × Placed)
+template_if_fine number s (fine acts) = (number, template s acts) ∷ []
+template_if_fine number s (breaks rule place) = []
 
 -- the code of a method
 abbrev pub method_code : Home → Option TypeExpr → List Argument → Body → Judged Code
@@ -156,7 +153,7 @@ abbrev pub body_in : Placed → Option Code
 body_in (body s code) = Some code
 body_in (template s it) = None
 
-abbrev pub template_in : Placed → Option Template
+abbrev pub template_in : Placed → Option (List Act)
 template_in (body s code) = None
 template_in (template s it) = Some it
 
@@ -169,6 +166,6 @@ abbrev pub bodies_in : List (ℕ × Placed) → List (ℕ × Code)
 bodies_in all = filter_map (λ one. with_number one.0 (body_in one.1)) all
 
 -- the template of a number
-abbrev pub template_at : List (ℕ × Placed) → ℕ → Option Template
+abbrev pub template_at : List (ℕ × Placed) → ℕ → Option (List Act)
 template_at [] number = None
 template_at (one ∷ others) number = if one.0 == number then template_in one.1 else template_at others number

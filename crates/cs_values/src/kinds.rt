@@ -1,0 +1,112 @@
+// What kind of value a value is, and what it holds.
+ghost use Rattle.std.specs.Prelude.{◌≡◌, option_map};
+ghost use Rattle.std.specs.Option.{option_copied};
+ghost use Rattle.cs_meaning.specs.Kinds as spec;
+
+use cs_ast::Value;
+use sqlite_items::Items;
+use text_core::Txt;
+
+pub fn number(value: &Value) -> Option<i32>
+    ensures { result ≡ spec.number_of value.now }
+{
+    match value {
+        Value::Int(number) => Some(*number),
+        _ => None,
+    }
+}
+
+pub fn truth(value: &Value) -> Option<bool>
+    ensures { result ≡ spec.truth_of value.now }
+{
+    match value {
+        Value::Bool(truth) => Some(*truth),
+        _ => None,
+    }
+}
+
+pub fn string(value: &Value) -> Option<&Txt>
+    ensures { option_copied result ≡ spec.string_of value.now }
+{
+    match value {
+        Value::Text(text) => Some(text),
+        _ => None,
+    }
+}
+
+pub fn is_null(value: &Value) -> bool
+    ensures { result ≡ spec.is_null value.now }
+{
+    matches!(value, Value::Null)
+}
+
+#[tactic(auto, using(cs_meaning::proofs::KindLemmas::items_some, cs_meaning::proofs::KindLemmas::items_none))]
+pub fn into_items(value: Value) -> Option<Items<Value>>
+    ensures { result ≡ spec.items_of value }
+{
+    match value {
+        Value::List(items) => Some(items),
+        _ => None,
+    }
+}
+
+/// A record taken apart.
+#[derive(Drop)]
+pub struct Parts {
+    pub kind: u32,
+    pub parts: Items<Value>,
+}
+
+#[tactic(auto, using(cs_meaning::proofs::KindLemmas::record_some, cs_meaning::proofs::KindLemmas::record_none))]
+pub fn into_record(value: Value) -> Option<Parts>
+    ensures { option_map (λ it. (it.kind, it.parts)) result ≡ spec.record_of value }
+{
+    match value {
+        Value::Rec { kind, parts } => Some(Parts { kind, parts }),
+        _ => None,
+    }
+}
+
+/// A fragment or a callback taken apart.
+#[derive(Drop)]
+pub struct Bound {
+    pub who: u32,
+    pub place: u32,
+    pub captures: Items<Value>,
+}
+
+#[tactic(auto, using(cs_meaning::proofs::KindLemmas::fragment_some, cs_meaning::proofs::KindLemmas::fragment_none))]
+pub fn into_fragment(value: Value) -> Option<Bound>
+    ensures { option_map (λ it. (it.who, it.place, it.captures)) result ≡ spec.fragment_of value }
+{
+    match value {
+        Value::Fragment {
+            who,
+            place,
+            captures,
+        } => Some(Bound {
+            who,
+            place,
+            captures,
+        }),
+        _ => None,
+    }
+}
+
+#[tactic(auto, using(cs_meaning::proofs::KindLemmas::callback_some, cs_meaning::proofs::KindLemmas::callback_none))]
+pub fn into_callback(value: Value) -> Option<Bound>
+    ensures { option_map (λ it. (it.who, it.place, it.captures)) result ≡ spec.callback_of value }
+{
+    match value {
+        Value::Callback {
+            who,
+            place,
+            captures,
+        } => Some(Bound {
+            who,
+            place,
+            captures,
+        }),
+        _ => None,
+    }
+}
