@@ -3,8 +3,10 @@ use Rattle.std.specs.Prelude.{◌≡◌, ℕ, List, Result, Ok, Err}
 use Rattle.cs_meaning.specs.declared.fault.Fault.TheVariants.{Oom}
 use Rattle.drawing_meaning.specs.declared.fault.PageFault.{PageFault}
 use Rattle.drawing_meaning.specs.declared.fault.PageFault.TheVariants.{Code}
-use Rattle.drawing_meaning.specs.Drawing.{Drawing, Drawn, gives, faults}
+use Rattle.drawing_meaning.specs.Drawing.{Drawing, Drawn, gives, faults, stuck}
 use Rattle.frame_core.specs.declared.item.Item.{Item}
+use Rattle.frame_run.specs.declared.exit.Exit.{Exit}
+use Rattle.frame_run.specs.declared.exit.Exit.TheVariants as exit
 
 -- the rendering at its end, with so many units left
 abbrev pub Ends : ℕ → (Drawing → Type 0) → Type 0
@@ -15,3 +17,9 @@ abbrev pub Draws : Result (List Item) PageFault → ℕ → Drawn (List Item) �
 Draws (Ok items) left drawn = Ends left (λ d. drawn ≡ gives items d)
 Draws (Err (Code Oom)) left drawn = Unit {0}
 Draws (Err fault) left drawn = Ends left (λ d. drawn ≡ faults fault d)
+
+-- the same, where it may be stuck
+abbrev pub Tries : Result (List Item) Exit → ℕ → Drawn (List Item) → Type 0
+Tries (Ok items) left drawn = Draws (Ok items) left drawn
+Tries (Err (exit.Fault fault)) left drawn = Draws (Err fault) left drawn
+Tries (Err exit.Stuck) left drawn = drawn ≡ stuck

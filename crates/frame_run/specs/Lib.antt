@@ -1,2 +1,4 @@
 pub mod Agrees
+pub mod Passed
+pub mod Pairs
 pub mod Answers

@@ -3,7 +3,8 @@ ghost use Rattle.std.specs.Prelude.{◌≡◌, ◌≤◌, map};
 ghost use Rattle.cs_ast.specs.declared.value.Value.TheVariants.{Null};
 ghost use Rattle.cs_meaning.specs.State.{Fields};
 ghost use Rattle.drawing_meaning.specs.Attributes as spec;
-ghost use Rattle.frame_program.specs.Operations.{said_by, dressed_by};
+ghost use Rattle.drawing_meaning.specs.Stages.{Stage};
+ghost use Rattle.frame_program.specs.Operations as operations;
 ghost use Rattle.frame_run.specs.Agrees.{Agrees, reached, stage_in};
 
 use crate::beginning::{begin_attribute, begin_handler, pay};
@@ -98,17 +99,22 @@ fn handler_of(
 }
 
 /// An attribute without a value.
+#[tactic(auto, unfolding(drawing_meaning::specs::Attributes::empty))]
 fn empty(
     alloc: Global,
     number: u32,
     name: &Txt,
     progress: &mut Progress,
-) -> Result<Items<ItemAttribute>, Exit> {
+) -> Result<Items<ItemAttribute>, Exit>
+    ensures means { (fields : Fields) (stage : Stage) → Agrees result (reached progress.new fields) (spec.empty number name.now stage (reached progress.old fields)) }
+    ensures spent { progress.new.left ≤ progress.old.left }
+{
     pay(progress)?;
     with_text(alloc, number, name, Some(Txt::new(alloc)), progress)
 }
 
 /// An attribute whose value is one expression.
+#[tactic(auto, unfolding(drawing_meaning::specs::Attributes::whole))]
 fn whole<O: Owners>(
     around: &Around<'_>,
     number: u32,
@@ -116,7 +122,11 @@ fn whole<O: Owners>(
     code: &Code,
     progress: &mut Progress,
     owners: &O,
-) -> Result<Items<ItemAttribute>, Exit> {
+) -> Result<Items<ItemAttribute>, Exit>
+    ensures means { Agrees result (reached progress.new (O.fields owners.now))
+        (spec.whole number name.now code.now (stage_in around.now (O.parameters owners.now)) (reached progress.old (O.fields owners.now))) }
+    ensures spent { progress.new.left ≤ progress.old.left }
+{
     pay(progress)?;
     let value = value_of(around, code, progress, owners)?;
     let text = attribute_text(around.alloc, &value, progress)?;
@@ -124,6 +134,7 @@ fn whole<O: Owners>(
 }
 
 /// An attribute whose value is one new text of several parts.
+#[tactic(auto, unfolding(drawing_meaning::specs::Attributes::mixed))]
 fn mixed<O: Owners>(
     around: &Around<'_>,
     number: u32,
@@ -131,7 +142,11 @@ fn mixed<O: Owners>(
     parts: &[TextPart],
     progress: &mut Progress,
     owners: &O,
-) -> Result<Items<ItemAttribute>, Exit> {
+) -> Result<Items<ItemAttribute>, Exit>
+    ensures means { Agrees result (reached progress.new (O.fields owners.now))
+        (spec.mixed number name.now (map operations.said_by parts.now) (stage_in around.now (O.parameters owners.now)) (reached progress.old (O.fields owners.now))) }
+    ensures spent { progress.new.left ≤ progress.old.left }
+{
     pay(progress)?;
     let text = parts_text(around, parts, progress, owners)?;
     let text = new_text(text, progress)?;
@@ -139,6 +154,7 @@ fn mixed<O: Owners>(
 }
 
 /// The handler of an event.
+#[tactic(auto, unfolding(drawing_meaning::specs::Attributes::event))]
 fn event<O: Owners>(
     around: &Around<'_>,
     number: u32,
@@ -146,20 +162,28 @@ fn event<O: Owners>(
     code: &Code,
     progress: &mut Progress,
     owners: &O,
-) -> Result<Items<ItemAttribute>, Exit> {
+) -> Result<Items<ItemAttribute>, Exit>
+    ensures means { Agrees result (reached progress.new (O.fields owners.now))
+        (spec.event number name.now code.now (stage_in around.now (O.parameters owners.now)) (reached progress.old (O.fields owners.now))) }
+    ensures spent { progress.new.left ≤ progress.old.left }
+{
     pay(progress)?;
     let value = value_of(around, code, progress, owners)?;
     handler_of(around.alloc, number, name, value, progress)
 }
 
 /// The handler of the body of a number, without captures.
+#[tactic(auto, unfolding(drawing_meaning::specs::Attributes::own_handler))]
 fn own_handler(
     around: &Around<'_>,
     number: u32,
     name: &Txt,
     place: u32,
     progress: &mut Progress,
-) -> Result<Items<ItemAttribute>, Exit> {
+) -> Result<Items<ItemAttribute>, Exit>
+    ensures means { (fields parameters : Fields) → Agrees result (reached progress.new fields) (spec.own_handler number name.now place (stage_in around.now parameters) (reached progress.old fields)) }
+    ensures spent { progress.new.left ≤ progress.old.left }
+{
     pay(progress)?;
     let handler = Bound {
         who: around.who,
@@ -169,33 +193,11 @@ fn own_handler(
     with_handler(around.alloc, number, name, handler, progress)
 }
 
-/// What an attribute makes that is no key.
-fn worn<O: Owners>(
-    around: &Around<'_>,
-    part: &AttributePart,
-    progress: &mut Progress,
-    owners: &O,
-) -> Result<Items<ItemAttribute>, Exit> {
-    match part {
-        AttributePart::Key(_) => Err(Exit::Stuck),
-        AttributePart::Empty { number, name } => empty(around.alloc, *number, name, progress),
-        AttributePart::Whole { number, name, code } => {
-            whole(around, *number, name, code, progress, owners)
-        }
-        AttributePart::Mixed {
-            number,
-            name,
-            parts,
-        } => mixed(around, *number, name, parts.as_slice(), progress, owners),
-        AttributePart::Event { number, name, code } => {
-            event(around, *number, name, code, progress, owners)
-        }
-        AttributePart::Handler {
-            number,
-            name,
-            place,
-        } => own_handler(around, *number, name, *place, progress),
-    }
+/// What is worn behind a key that is handed on.
+fn wears(worn: Items<ItemAttribute>, key: Value) -> Dress
+    ensures { result ≡ spec.dress worn key }
+{
+    Dress { worn, key }
 }
 
 /// An attribute behind those before it, whose key is handed on.
@@ -205,20 +207,49 @@ fn dressed_by<O: Owners>(
     key: Value,
     progress: &mut Progress,
     owners: &O,
-) -> Result<Dress, Exit> {
+) -> Result<Dress, Exit>
+    ensures means { Agrees result (reached progress.new (O.fields owners.now))
+        (operations.dressed_by part.now (stage_in around.now (O.parameters owners.now)) key (reached progress.old (O.fields owners.now))) }
+    ensures spent { progress.new.left ≤ progress.old.left }
+{
+    let alloc = around.alloc;
     match part {
-        AttributePart::Key(code) => Ok(Dress {
-            worn: Items::new(around.alloc),
-            key: value_of(around, code, progress, owners)?,
-        }),
-        _ => Ok(Dress {
-            worn: worn(around, part, progress, owners)?,
-            key,
-        }),
+        AttributePart::Key(code) => {
+            let key = value_of(around, code, progress, owners)?;
+            Ok(wears(Items::new(alloc), key))
+        }
+        AttributePart::Empty { number, name } => {
+            Ok(wears(empty(alloc, *number, name, progress)?, key))
+        }
+        AttributePart::Whole { number, name, code } => {
+            let worn = whole(around, *number, name, code, progress, owners)?;
+            Ok(wears(worn, key))
+        }
+        AttributePart::Mixed {
+            number,
+            name,
+            parts,
+        } => {
+            let worn = mixed(around, *number, name, parts.as_slice(), progress, owners)?;
+            Ok(wears(worn, key))
+        }
+        AttributePart::Event { number, name, code } => {
+            let worn = event(around, *number, name, code, progress, owners)?;
+            Ok(wears(worn, key))
+        }
+        AttributePart::Handler {
+            number,
+            name,
+            place,
+        } => {
+            let worn = own_handler(around, *number, name, *place, progress)?;
+            Ok(wears(worn, key))
+        }
     }
 }
 
 /// All attributes of an element, one after another.
+#[tactic(auto, unfolding(drawing_meaning::specs::Attributes::all_worn))]
 pub(crate) fn dressed<O: Owners>(
     around: &Around<'_>,
     parts: &[AttributePart],
@@ -226,7 +257,7 @@ pub(crate) fn dressed<O: Owners>(
     owners: &O,
 ) -> Result<Dress, Exit>
     ensures means { Agrees result (reached progress.new (O.fields owners.now))
-        (spec.all_worn (map dressed_by parts.now) (stage_in around.now (O.parameters owners.now)) Null (reached progress.old (O.fields owners.now))) }
+        (spec.all_worn (map operations.dressed_by parts.now) (stage_in around.now (O.parameters owners.now)) Null (reached progress.old (O.fields owners.now))) }
     ensures spent { progress.new.left ≤ progress.old.left }
 {
     let mut worn = Items::new(around.alloc);

@@ -1,5 +1,5 @@
 // What an item costs and counts as it is begun.
-ghost use Rattle.std.specs.Prelude.{◌≡◌, ◌≤◌, ◌+◌, ◌-◌, ◌^◌, ℕ, min, length, encode_utf8_all, OnOk};
+ghost use Rattle.std.specs.Prelude.{◌≡◌, ◌≤◌, ◌+◌, ◌-◌, ◌^◌, ℕ, min, length, encode_utf8_all, OnOk, ◌<◌, ◌⊎◌, IfSome, OnNone};
 ghost use Rattle.cs_meaning.specs.State.{Fields};
 ghost use Rattle.drawing_meaning.specs.Drawing as spec;
 ghost use Rattle.drawing_meaning.specs.Drawing.{◌>>=◌};
@@ -43,7 +43,10 @@ fn bytes_of_both(one: &Txt, other: &Txt) -> u64
 }
 
 /// The counts with an item more, if there may be one.
-fn with_item(bytes: u64, counts: Counts) -> Option<Counts> {
+fn with_item(bytes: u64, counts: Counts) -> Option<Counts>
+    ensures within { IfSome result (λ more. (counts.items + 1 ≤ 100000) × (counts.bytes + bytes ≤ 8388608) × (more.items ≡ counts.items + 1) × (more.bytes ≡ counts.bytes + bytes) × (more.components ≡ counts.components)) }
+    ensures beyond { OnNone result ((100000 < counts.items + 1) ⊎ (8388608 < counts.bytes + bytes)) }
+{
     if counts.items >= MOST_ITEMS || bytes > MOST_BYTES - counts.bytes {
         return None;
     }
@@ -55,6 +58,7 @@ fn with_item(bytes: u64, counts: Counts) -> Option<Counts> {
 }
 
 /// An item with so many bytes.
+#[tactic(auto, unfolding(drawing_meaning::specs::Drawing::begun))]
 fn begin(bytes: u64, progress: &mut Progress) -> Result<(), Exit>
     ensures means { (fields : Fields) (n : ℕ) → bytes ≡ min n (2 ^ 64 - 1) → Agrees result (reached progress.new fields) (spec.begun n (reached progress.old fields)) }
     ensures left { progress.new.left ≡ progress.old.left }
@@ -85,6 +89,7 @@ pub(crate) fn begin_handler(name: &Txt, progress: &mut Progress) -> Result<(), E
 }
 
 /// An element of this name, or a text, so deep in the page.
+#[tactic(auto, unfolding(drawing_meaning::specs::Drawing::begun_at))]
 pub(crate) fn begin_at(depth: u32, text: &Txt, progress: &mut Progress) -> Result<(), Exit>
     ensures means { (fields : Fields) → Agrees result (reached progress.new fields) (spec.begun_at depth (spec.bytes_of text.now) (reached progress.old fields)) }
     ensures left { progress.new.left ≡ progress.old.left }
@@ -97,6 +102,7 @@ pub(crate) fn begin_at(depth: u32, text: &Txt, progress: &mut Progress) -> Resul
 }
 
 /// A component: its place among those of the rendering.
+#[tactic(auto, unfolding(drawing_meaning::specs::Drawing::next_component))]
 pub(crate) fn begin_component(progress: &mut Progress) -> Result<u32, Exit>
     ensures means { (fields : Fields) → Agrees result (reached progress.new fields) ((spec.begun 0 >>= λ begun. spec.next_component) (reached progress.old fields)) }
     ensures left { progress.new.left ≡ progress.old.left }

@@ -4,6 +4,7 @@ ghost use Rattle.std.specs.Option.{option_copied};
 ghost use Rattle.cs_meaning.specs.State.{Fields};
 ghost use Rattle.drawing_meaning.specs.Stages as spec;
 ghost use Rattle.drawing_meaning.specs.Turns as turns;
+ghost use Rattle.frame_run.specs.Passed.{Passes};
 ghost use Rattle.frame_run.specs.Agrees.{Agrees, reached, stage_in};
 
 use crate::exit::Exit;
@@ -18,7 +19,9 @@ use std::alloc::Global;
 use std::mem;
 
 /// What an evaluation gives to what is round it.
-fn given(outcome: Result<Option<Value>, Fault>) -> Result<Value, Exit> {
+fn given(outcome: Result<Option<Value>, Fault>) -> Result<Value, Exit>
+    ensures { Passes outcome result }
+{
     match outcome {
         Ok(Some(value)) => Ok(value),
         Ok(None) => Err(Exit::Stuck),

@@ -1,5 +1,6 @@
 // Content expressions, and what fragments show.
-ghost use Rattle.std.specs.Prelude.{◌≡◌, ◌≤◌, map};
+ghost use Rattle.std.specs.Prelude.{◌≡◌, ◌≤◌, IfOk};
+ghost use Rattle.cs_meaning.specs.State.{Fields};
 ghost use Rattle.drawing_meaning.specs.Nodes as spec;
 ghost use Rattle.frame_program.specs.Operations.{appears_in};
 ghost use Rattle.frame_run.specs.Agrees.{Agrees, reached, stage_in};
@@ -26,7 +27,9 @@ use std::mem;
 const DEEPEST: u32 = 100;
 
 /// The captures as the locals of a template.
-fn locals_of(alloc: Global, captures: Items<Value>) -> Result<Vec<Value>, AllocError> {
+fn locals_of(alloc: Global, captures: Items<Value>) -> Result<Vec<Value>, AllocError>
+    ensures { IfOk result (λ locals. locals.items ≡ captures) }
+{
     let mut captures = captures;
     let mut locals = Vec::new(alloc);
     while let Some(value) = captures.pop() {
@@ -77,6 +80,7 @@ fn show<O: Owners>(
 
 /// A fragment as content: a region with what it shows; null is none.
 #[cycle(drawing)]
+#[tactic(auto, unfolding(drawing_meaning::specs::Nodes::as_fragment))]
 fn as_fragment<O: Owners>(
     around: &Around<'_>,
     number: u32,
@@ -105,12 +109,16 @@ fn as_fragment<O: Owners>(
 }
 
 /// A value as a text.
+#[tactic(auto, unfolding(drawing_meaning::specs::Nodes::as_text))]
 fn as_text(
     around: &Around<'_>,
     number: u32,
     value: &Value,
     progress: &mut Progress,
-) -> Result<Items<Item>, Exit> {
+) -> Result<Items<Item>, Exit>
+    ensures means { (fields parameters : Fields) → Agrees result (reached progress.new fields) (spec.as_text number value.now (stage_in around.now parameters) (reached progress.old fields)) }
+    ensures spent { progress.new.left ≤ progress.old.left }
+{
     let mut items = Items::new(around.alloc);
     let text = text_of(around.alloc, value, progress)?;
     begin_at(around.depth, &text, progress)?;
@@ -119,12 +127,16 @@ fn as_text(
 }
 
 /// A value as markup.
+#[tactic(auto, unfolding(drawing_meaning::specs::Nodes::as_markup))]
 fn as_markup(
     around: &Around<'_>,
     number: u32,
     value: &Value,
     progress: &mut Progress,
-) -> Result<Items<Item>, Exit> {
+) -> Result<Items<Item>, Exit>
+    ensures means { (fields parameters : Fields) → Agrees result (reached progress.new fields) (spec.as_markup number value.now (stage_in around.now parameters) (reached progress.old fields)) }
+    ensures spent { progress.new.left ≤ progress.old.left }
+{
     let mut items = Items::new(around.alloc);
     let text = text_of(around.alloc, value, progress)?;
     begin_at(around.depth, &text, progress)?;
@@ -134,6 +146,7 @@ fn as_markup(
 
 /// A content expression.
 #[cycle(drawing)]
+#[tactic(auto, unfolding(drawing_meaning::specs::Nodes::content))]
 pub(crate) fn content<O: Owners>(
     around: &Around<'_>,
     number: u32,

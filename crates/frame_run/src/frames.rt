@@ -2,7 +2,7 @@
 ghost use Rattle.std.specs.Prelude.{◌≡◌};
 ghost use Rattle.drawing_meaning.specs.Drawing.{IsDrawn};
 ghost use Rattle.frame_program.specs.Frames.{frames_of};
-ghost use Rattle.frame_run.specs.Answers.{Draws};
+ghost use Rattle.frame_run.specs.Answers.{Draws, Tries};
 
 use crate::counts::Counts;
 use crate::exit::Exit;
@@ -23,7 +23,10 @@ fn drawn<O: Owners>(
     scope: &RunScope,
     owners: &O,
     fuel: &mut Fuel,
-) -> Result<Items<Item>, Exit> {
+) -> Result<Items<Item>, Exit>
+    ensures means { Tries result fuel.new.left (frames_of compiled.now scope.now (O.fields owners.now) (O.parameters owners.now) fuel.old) }
+    ensures depth { fuel.new.depth ≡ fuel.old.depth }
+{
     let Some(component) = at(compiled.components.as_slice(), scope.component as usize) else {
         return Err(Exit::Stuck);
     };

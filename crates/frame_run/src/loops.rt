@@ -1,6 +1,9 @@
 // Loops, whose turns are regions.
 ghost use Rattle.std.specs.Prelude.{◌≡◌, ◌≤◌, map};
 ghost use Rattle.std.specs.Option.{option_copied};
+ghost use Rattle.cs_meaning.specs.Kinds.{items_of};
+ghost use Rattle.cs_meaning.specs.Reading.{used};
+ghost use Rattle.drawing_meaning.specs.Drawing.{Drawing, run};
 ghost use Rattle.drawing_meaning.specs.Turns as spec;
 ghost use Rattle.frame_program.specs.Operations.{act_of};
 ghost use Rattle.frame_run.specs.Agrees.{Agrees, reached, stage_in};
@@ -31,6 +34,7 @@ pub(crate) struct Turn<'a> {
 
 /// A turn.
 #[cycle(drawing)]
+#[tactic(auto, unfolding(drawing_meaning::specs::Turns::turn))]
 fn turn<O: Owners>(
     around: &Around<'_>,
     turn: &Turn<'_>,
@@ -82,6 +86,7 @@ fn turns<O: Owners>(
 
 /// `while`.
 #[cycle(drawing)]
+#[tactic(auto, unfolding(drawing_meaning::specs::Turns::while_loop))]
 pub(crate) fn while_loop<O: Owners>(
     around: &Around<'_>,
     turn: &Turn<'_>,
@@ -118,6 +123,7 @@ fn behind_start<O: Owners>(
 
 /// `for`, whose start is in the scope of the whole loop.
 #[cycle(drawing)]
+#[tactic(auto, unfolding(drawing_meaning::specs::Turns::for_loop))]
 pub(crate) fn for_loop<O: Owners>(
     around: &Around<'_>,
     turn: &Turn<'_>,
@@ -160,6 +166,7 @@ fn item_turn<O: Owners>(
 
 /// A turn for each item.
 #[cycle(drawing)]
+#[tactic(auto, unfolding(drawing_meaning::specs::Turns::each_turn))]
 fn each_turn<O: Owners>(
     around: &Around<'_>,
     one: &Turn<'_>,
@@ -180,7 +187,9 @@ fn each_turn<O: Owners>(
 }
 
 /// The items of a list.
-fn use_items(value: Value) -> Result<Items<Value>, Exit> {
+fn use_items(value: Value) -> Result<Items<Value>, Exit>
+    ensures { (d : Drawing) → Agrees result d (run (used value (items_of value)) d) }
+{
     if is_null(&value) {
         return Err(Exit::Fault(PageFault::Code(Fault::NullUse)));
     }
@@ -192,6 +201,7 @@ fn use_items(value: Value) -> Result<Items<Value>, Exit> {
 
 /// `foreach`, which takes its list once.
 #[cycle(drawing)]
+#[tactic(auto, unfolding(drawing_meaning::specs::Turns::for_each))]
 pub(crate) fn for_each<O: Owners>(
     around: &Around<'_>,
     turn: &Turn<'_>,

@@ -23,7 +23,10 @@ use std::alloc::Global;
 use text_core::Txt;
 
 /// In an element.
-fn deeper<'a>(around: &Around<'a>) -> Around<'a> {
+fn deeper<'a>(around: &Around<'a>) -> Around<'a>
+    requires { around.now.depth ≤ 1000 }
+    ensures { result ≡ record around.now { depth = around.now.depth + 1 } }
+{
     Around {
         alloc: around.alloc,
         bodies: around.bodies,
@@ -36,6 +39,7 @@ fn deeper<'a>(around: &Around<'a>) -> Around<'a> {
 
 /// An element.
 #[cycle(drawing)]
+#[tactic(auto, unfolding(drawing_meaning::specs::Nodes::element))]
 pub(crate) fn element<O: Owners>(
     around: &Around<'_>,
     number: u32,
@@ -66,6 +70,7 @@ pub(crate) fn element<O: Owners>(
 }
 
 /// A literal text.
+#[tactic(auto, unfolding(drawing_meaning::specs::Nodes::text))]
 pub(crate) fn literal(
     around: &Around<'_>,
     number: u32,
@@ -82,6 +87,7 @@ pub(crate) fn literal(
 }
 
 /// A literal text that is markup.
+#[tactic(auto, unfolding(drawing_meaning::specs::Nodes::raw))]
 pub(crate) fn raw(
     around: &Around<'_>,
     number: u32,
@@ -98,6 +104,7 @@ pub(crate) fn raw(
 }
 
 /// A statement, which makes nothing.
+#[tactic(auto, unfolding(drawing_meaning::specs::Nodes::statement))]
 pub(crate) fn statement<O: Owners>(
     around: &Around<'_>,
     code: &Code,
@@ -113,6 +120,7 @@ pub(crate) fn statement<O: Owners>(
 }
 
 /// The `break` of a section.
+#[tactic(auto, unfolding(drawing_meaning::specs::Nodes::break_out))]
 pub(crate) fn break_out(around: &Around<'_>, progress: &mut Progress) -> Result<Output, Exit>
     ensures means { (fields parameters : Fields) → Agrees result (reached progress.new fields) (spec.break_out (stage_in around.now parameters) (reached progress.old fields)) }
     ensures spent { progress.new.left ≤ progress.old.left }
@@ -126,6 +134,7 @@ pub(crate) fn break_out(around: &Around<'_>, progress: &mut Progress) -> Result<
 
 /// A block.
 #[cycle(drawing)]
+#[tactic(auto, unfolding(drawing_meaning::specs::Nodes::block))]
 pub(crate) fn block<O: Owners>(
     around: &Around<'_>,
     operations: &[Operation],
@@ -142,6 +151,7 @@ pub(crate) fn block<O: Owners>(
 
 /// `if`, and `else`.
 #[cycle(drawing)]
+#[tactic(auto, unfolding(drawing_meaning::specs::Nodes::branch))]
 pub(crate) fn branch<O: Owners>(
     around: &Around<'_>,
     test: &Code,
@@ -163,6 +173,7 @@ pub(crate) fn branch<O: Owners>(
 
 /// A `switch`, whose section may end in a `break`.
 #[cycle(drawing)]
+#[tactic(auto, unfolding(drawing_meaning::specs::Nodes::switch))]
 pub(crate) fn switch<O: Owners>(
     around: &Around<'_>,
     value: &Code,

@@ -2,6 +2,9 @@
 ghost use Rattle.std.specs.Prelude.{◌≡◌, ◌≤◌, map};
 ghost use Rattle.cs_ast.specs.declared.value.Value.{Value};
 ghost use Rattle.cs_ast.specs.declared.value.Value.TheVariants.{Null};
+ghost use Rattle.cs_meaning.specs.State.{Fields};
+ghost use Rattle.drawing_meaning.specs.Drawing.{Drawing};
+ghost use Rattle.drawing_meaning.specs.Stages.{Stage};
 ghost use Rattle.drawing_meaning.specs.Tags as spec;
 ghost use Rattle.frame_program.specs.Operations as operations;
 ghost use Rattle.frame_run.specs.Agrees.{Agrees, reached, stage_in};
@@ -22,25 +25,32 @@ use std::alloc::Global;
 use text_core::Txt;
 
 /// A parameter of a place.
-fn one_gift(alloc: Global, place: u32, value: Value, key: Value) -> Result<Gifts, Exit> {
+fn one_gift(alloc: Global, place: u32, value: Value, key: Value) -> Result<Gifts, Exit>
+    ensures { (d : Drawing) → Agrees result d (spec.one_gift place value key d) }
+{
     let mut supplied = Items::new(alloc);
     supplied.push(ItemParameter { place, value })?;
     Ok(Gifts { supplied, key })
 }
 
 /// A literal text for the parameter of a place.
+#[tactic(auto, unfolding(drawing_meaning::specs::Tags::given_text))]
 fn given_text(
     alloc: Global,
     place: u32,
     text: &Txt,
     key: Value,
     progress: &mut Progress,
-) -> Result<Gifts, Exit> {
+) -> Result<Gifts, Exit>
+    ensures means { (fields : Fields) (stage : Stage) → Agrees result (reached progress.new fields) (spec.given_text place text.now stage key (reached progress.old fields)) }
+    ensures spent { progress.new.left ≤ progress.old.left }
+{
     pay(progress)?;
     one_gift(alloc, place, Value::Text(text.clone()?), key)
 }
 
 /// An expression for it.
+#[tactic(auto, unfolding(drawing_meaning::specs::Tags::given_value))]
 fn given_value<O: Owners>(
     around: &Around<'_>,
     place: u32,
@@ -48,19 +58,28 @@ fn given_value<O: Owners>(
     key: Value,
     progress: &mut Progress,
     owners: &O,
-) -> Result<Gifts, Exit> {
+) -> Result<Gifts, Exit>
+    ensures means { Agrees result (reached progress.new (O.fields owners.now))
+        (spec.given_value place code.now (stage_in around.now (O.parameters owners.now)) key (reached progress.old (O.fields owners.now))) }
+    ensures spent { progress.new.left ≤ progress.old.left }
+{
     pay(progress)?;
     let value = value_of(around, code, progress, owners)?;
     one_gift(around.alloc, place, value, key)
 }
 
 /// `@key`
+#[tactic(auto, unfolding(drawing_meaning::specs::Tags::given_key))]
 fn given_key<O: Owners>(
     around: &Around<'_>,
     code: &Code,
     progress: &mut Progress,
     owners: &O,
-) -> Result<Gifts, Exit> {
+) -> Result<Gifts, Exit>
+    ensures means { (key : Value) → Agrees result (reached progress.new (O.fields owners.now))
+        (spec.given_key code.now (stage_in around.now (O.parameters owners.now)) key (reached progress.old (O.fields owners.now))) }
+    ensures spent { progress.new.left ≤ progress.old.left }
+{
     let key = value_of(around, code, progress, owners)?;
     Ok(Gifts {
         supplied: Items::new(around.alloc),
@@ -69,6 +88,7 @@ fn given_key<O: Owners>(
 }
 
 /// The fragment of a number, over these locals.
+#[tactic(auto, unfolding(drawing_meaning::specs::Tags::given_content))]
 fn given_content(
     around: &Around<'_>,
     place: u32,
@@ -76,7 +96,9 @@ fn given_content(
     locals: &[u32],
     key: Value,
     progress: &Progress,
-) -> Result<Gifts, Exit> {
+) -> Result<Gifts, Exit>
+    ensures { (fields parameters : Fields) → Agrees result (reached progress.now fields) (spec.given_content place number locals.now (stage_in around.now parameters) key (reached progress.now fields)) }
+{
     let captures = captured(around.alloc, locals, progress)?;
     let fragment = Value::Fragment {
         who: around.who,
@@ -87,6 +109,7 @@ fn given_content(
 }
 
 /// The same by a tag of its own.
+#[tactic(auto, unfolding(drawing_meaning::specs::Tags::given_fragment))]
 fn given_fragment(
     around: &Around<'_>,
     place: u32,
@@ -94,7 +117,10 @@ fn given_fragment(
     locals: &[u32],
     key: Value,
     progress: &mut Progress,
-) -> Result<Gifts, Exit> {
+) -> Result<Gifts, Exit>
+    ensures means { (fields parameters : Fields) → Agrees result (reached progress.new fields) (spec.given_fragment place number locals.now (stage_in around.now parameters) key (reached progress.old fields)) }
+    ensures spent { progress.new.left ≤ progress.old.left }
+{
     pay(progress)?;
     given_content(around, place, number, locals, key, progress)
 }
@@ -131,6 +157,7 @@ fn given_by<O: Owners>(
 }
 
 /// All parts of a tag, one after another.
+#[tactic(auto, unfolding(drawing_meaning::specs::Tags::all_given))]
 fn all_given<O: Owners>(
     around: &Around<'_>,
     parts: &[TagPart],
@@ -152,6 +179,7 @@ fn all_given<O: Owners>(
 }
 
 /// What the tag of a component makes.
+#[tactic(auto, unfolding(drawing_meaning::specs::Tags::component))]
 pub(crate) fn component<O: Owners>(
     around: &Around<'_>,
     number: u32,

@@ -7,6 +7,7 @@ ghost use Rattle.cs_meaning.specs.State.{Fields};
 ghost use Rattle.drawing_meaning.specs.Drawing.{run, known, ◌>>=◌};
 ghost use Rattle.drawing_meaning.specs.Texts as spec;
 ghost use Rattle.frame_program.specs.Operations.{said_by};
+ghost use Rattle.frame_run.specs.Passed.{charged_value};
 ghost use Rattle.frame_run.specs.Agrees.{Agrees, reached, stage_in};
 
 use crate::code::value_of;
@@ -25,7 +26,10 @@ use text_core::Txt;
 const LARGEST: u64 = 1_048_576;
 
 /// Charges a new value of this size, which must not be too large.
-fn charge(size: u64, progress: &mut Progress) -> Result<(), Exit> {
+fn charge(size: u64, progress: &mut Progress) -> Result<(), Exit>
+    ensures means { (fields : Fields) → Agrees result (reached progress.new fields) (charged_value size (reached progress.old fields)) }
+    ensures spent { progress.new.left ≤ progress.old.left }
+{
     let left = progress.left;
     if size / 64 > u64::from(left) {
         progress.left = 0;
@@ -103,6 +107,7 @@ fn part_text<O: Owners>(
 }
 
 /// What parts show, one behind another.
+#[tactic(auto, unfolding(drawing_meaning::specs::Texts::all_said))]
 pub(crate) fn parts_text<O: Owners>(
     around: &Around<'_>,
     parts: &[TextPart],
