@@ -12,8 +12,8 @@ use Rattle.frame_program.specs.declared.operation.Operation.{Operation}
 use Rattle.frame_program.specs.declared.operation.Operation.TheVariants as o
 use Rattle.frame_program.specs.declared.operation.Operation.TheOpen.{Operation-F}
 use Rattle.frame_program.specs.declared.operation.Operation.TheViews.{roll-Operation}
-use Rattle.frame_program.specs.declared.operation.Operation.TheFolds.{map-Operation, fold-roll-Operation}
-use Rattle.frame_program.specs.declared.operation.OperationSection.{OperationSection}
+use Rattle.frame_program.specs.declared.operation.Operation.TheFolds.{map-Operation, fold-roll-Operation, fold_out-OperationSection}
+use Rattle.frame_program.specs.declared.operation.OperationSection.{OperationSection, out-OperationSection}
 use Rattle.frame_program.specs.declared.parts.AttributePart.{AttributePart}
 use Rattle.frame_program.specs.declared.parts.ContentForm.{ContentForm}
 use Rattle.frame_program.specs.declared.parts.TagPart.{TagPart}
@@ -62,3 +62,8 @@ for_each_law number list keyed body = at_variant (o.ForEach number list keyed bo
 
 pub while_law : (number : ℕ) (test : Code) (keyed : Option ℕ) (body : List Operation) → act_of (o.While number test keyed body) ≡ turns.while_loop number test keyed (map act_of body)
 while_law number test keyed body = at_variant (o.While number test keyed body) (Operation-F.While number test keyed body) (o.rolls-While number test keyed body)
+
+-- what a section does
+pub section_law : (one : OperationSection) → acts_of_section one ≡ section (out-OperationSection one).constants (out-OperationSection one).otherwise (map act_of (out-OperationSection one).operations)
+unfolding act_of acts_of_section
+section_law one = fold_out-OperationSection Act (Section (List Act)) level section_level one

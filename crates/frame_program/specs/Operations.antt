@@ -12,7 +12,7 @@ use Rattle.drawing_meaning.specs.Texts.{Says, literal, shown_code}
 use Rattle.drawing_meaning.specs.Turns as turns
 use Rattle.frame_program.specs.declared.operation.Operation.{Operation}
 use Rattle.frame_program.specs.declared.operation.OperationSection.{OperationSection}
-use Rattle.frame_program.specs.declared.operation.Operation.TheOpen.{Operation-F}
+use Rattle.frame_program.specs.declared.operation.Operation.TheOpen.{Operation-F, OperationSection-F}
 use Rattle.frame_program.specs.declared.operation.Operation.TheFolds.{fold-Operation, fold-OperationSection}
 use Rattle.frame_program.specs.declared.parts.AttributePart.{AttributePart}
 use Rattle.frame_program.specs.declared.parts.AttributePart.TheVariants as attribute

@@ -1,4 +1,5 @@
 pub mod Agrees
 pub mod Passed
 pub mod Pairs
+pub mod Choice
 pub mod Answers

@@ -249,7 +249,7 @@ fn dressed_by<O: Owners>(
 }
 
 /// All attributes of an element, one after another.
-#[tactic(auto, unfolding(drawing_meaning::specs::Attributes::all_worn))]
+#[tactic(auto, using(crate::proofs::OrderLemmas::worn_nothing, crate::proofs::OrderLemmas::worn_behind), unfolding(drawing_meaning::specs::Attributes::all_worn))]
 pub(crate) fn dressed<O: Owners>(
     around: &Around<'_>,
     parts: &[AttributePart],

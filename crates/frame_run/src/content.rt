@@ -15,7 +15,7 @@ use crate::texts::text_of;
 use cs_ast::{Code, Value};
 use cs_eval::Owners;
 use cs_meaning::Fault;
-use cs_values::{Bound, into_fragment, is_null};
+use cs_values::{Bound, copy, into_fragment, is_null};
 use drawing_meaning::{Output, PageFault};
 use frame_core::Item;
 use frame_program::ContentForm;
@@ -27,15 +27,13 @@ use std::mem;
 const DEEPEST: u32 = 100;
 
 /// The captures as the locals of a template.
-fn locals_of(alloc: Global, captures: Items<Value>) -> Result<Vec<Value>, AllocError>
-    ensures { IfOk result (λ locals. locals.items ≡ captures) }
+fn locals_of(alloc: Global, captures: &[Value]) -> Result<Vec<Value>, AllocError>
+    ensures { IfOk result (λ locals. locals.items ≡ captures.now) }
 {
-    let mut captures = captures;
     let mut locals = Vec::new(alloc);
-    while let Some(value) = captures.pop() {
-        locals.push(value)?;
+    for value in captures {
+        locals.push(copy(alloc, value)?)?;
     }
-    locals.reverse();
     Ok(locals)
 }
 
@@ -71,7 +69,7 @@ fn show<O: Owners>(
         calls: around.calls + 1,
         depth: around.depth,
     };
-    let locals = locals_of(around.alloc, captures)?;
+    let locals = locals_of(around.alloc, captures.as_slice())?;
     let outer = mem::replace(&mut progress.locals, locals);
     let items = siblings(&inside, operations.as_slice(), progress, owners)?;
     progress.locals = outer;

@@ -57,6 +57,7 @@ fn turn<O: Owners>(
 
 /// Turns of a loop, each of which pays a unit at least.
 #[cycle(drawing)]
+#[tactic(auto, using(crate::proofs::OrderLemmas::behind_nothing, crate::proofs::OrderLemmas::all_behind, crate::proofs::OrderLemmas::turns_more, crate::proofs::OrderLemmas::turns_none))]
 fn turns<O: Owners>(
     around: &Around<'_>,
     one: &Turn<'_>,
@@ -166,7 +167,7 @@ fn item_turn<O: Owners>(
 
 /// A turn for each item.
 #[cycle(drawing)]
-#[tactic(auto, unfolding(drawing_meaning::specs::Turns::each_turn))]
+#[tactic(auto, using(crate::proofs::OrderLemmas::behind_nothing, crate::proofs::OrderLemmas::all_behind), unfolding(drawing_meaning::specs::Turns::each_turn))]
 fn each_turn<O: Owners>(
     around: &Around<'_>,
     one: &Turn<'_>,

@@ -116,7 +116,7 @@ fn operate<O: Owners>(
 
 /// Operations, one after another, up to a `break`.
 #[cycle(drawing)]
-#[tactic(auto, unfolding(drawing_meaning::specs::Acts::in_order))]
+#[tactic(auto, using(crate::proofs::OrderLemmas::behind_no_items, crate::proofs::OrderLemmas::goes_on, crate::proofs::OrderLemmas::breaks_off), unfolding(drawing_meaning::specs::Acts::in_order))]
 pub(crate) fn in_order<O: Owners>(
     around: &Around<'_>,
     operations: &[Operation],

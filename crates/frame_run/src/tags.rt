@@ -157,7 +157,7 @@ fn given_by<O: Owners>(
 }
 
 /// All parts of a tag, one after another.
-#[tactic(auto, unfolding(drawing_meaning::specs::Tags::all_given))]
+#[tactic(auto, using(crate::proofs::OrderLemmas::given_nothing, crate::proofs::OrderLemmas::given_behind), unfolding(drawing_meaning::specs::Tags::all_given))]
 fn all_given<O: Owners>(
     around: &Around<'_>,
     parts: &[TagPart],

@@ -107,7 +107,7 @@ fn part_text<O: Owners>(
 }
 
 /// What parts show, one behind another.
-#[tactic(auto, unfolding(drawing_meaning::specs::Texts::all_said))]
+#[tactic(auto, using(crate::proofs::OrderLemmas::behind_nothing, crate::proofs::OrderLemmas::list_behind), unfolding(drawing_meaning::specs::Texts::all_said))]
 pub(crate) fn parts_text<O: Owners>(
     around: &Around<'_>,
     parts: &[TextPart],
