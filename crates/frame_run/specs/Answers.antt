@@ -1,5 +1,5 @@
 -- What a rendering answers.
-use Rattle.std.specs.Prelude.{◌≡◌, ℕ, List, Result, Ok, Err}
+use Rattle.std.specs.Prelude.{◌≡◌, ℕ, List, Option, Some, None, Result, Ok, Err}
 use Rattle.cs_meaning.specs.declared.fault.Fault.TheVariants.{Oom}
 use Rattle.drawing_meaning.specs.declared.fault.PageFault.{PageFault}
 use Rattle.drawing_meaning.specs.declared.fault.PageFault.TheVariants.{Code}
@@ -18,8 +18,14 @@ Draws (Ok items) left drawn = Ends left (λ d. drawn ≡ gives items d)
 Draws (Err (Code Oom)) left drawn = Unit {0}
 Draws (Err fault) left drawn = Ends left (λ d. drawn ≡ faults fault d)
 
--- the same, where it may be stuck
-abbrev pub Tries : Result (List Item) Exit → ℕ → Drawn (List Item) → Type 0
-Tries (Ok items) left drawn = Draws (Ok items) left drawn
-Tries (Err (exit.Fault fault)) left drawn = Draws (Err fault) left drawn
-Tries (Err exit.Stuck) left drawn = drawn ≡ stuck
+-- the same, where it may be stuck, and then gives nothing
+abbrev pub Tries : Result (Option (List Item)) PageFault → ℕ → Drawn (List Item) → Type 0
+Tries (Ok (Some items)) left drawn = Draws (Ok items) left drawn
+Tries (Ok None) left drawn = drawn ≡ stuck
+Tries (Err fault) left drawn = Draws (Err fault) left drawn
+
+-- the same by an exit
+abbrev pub TriesExit : Result (List Item) Exit → ℕ → Drawn (List Item) → Type 0
+TriesExit (Ok items) left drawn = Draws (Ok items) left drawn
+TriesExit (Err (exit.Fault fault)) left drawn = Draws (Err fault) left drawn
+TriesExit (Err exit.Stuck) left drawn = drawn ≡ stuck

@@ -2,7 +2,7 @@
 ghost use Rattle.std.specs.Prelude.{◌≡◌};
 ghost use Rattle.drawing_meaning.specs.Drawing.{IsDrawn};
 ghost use Rattle.frame_program.specs.Frames.{frames_of};
-ghost use Rattle.frame_run.specs.Answers.{Draws, Tries};
+ghost use Rattle.frame_run.specs.Answers.{Draws, Tries, TriesExit};
 
 use crate::counts::Counts;
 use crate::exit::Exit;
@@ -16,7 +16,7 @@ use frame_program::{Compiled, RunScope};
 use sqlite_items::{Items, at};
 use std::alloc::Global;
 
-/// The items of an instance, or nothing where its code is stuck.
+/// The items of an instance.
 fn drawn<O: Owners>(
     alloc: Global,
     compiled: &Compiled,
@@ -24,7 +24,7 @@ fn drawn<O: Owners>(
     owners: &O,
     fuel: &mut Fuel,
 ) -> Result<Items<Item>, Exit>
-    ensures means { Tries result fuel.new.left (frames_of compiled.now scope.now (O.fields owners.now) (O.parameters owners.now) fuel.old) }
+    ensures means { TriesExit result fuel.new.left (frames_of compiled.now scope.now (O.fields owners.now) (O.parameters owners.now) fuel.old) }
     ensures depth { fuel.new.depth ≡ fuel.old.depth }
 {
     let Some(component) = at(compiled.components.as_slice(), scope.component as usize) else {
@@ -52,7 +52,25 @@ fn drawn<O: Owners>(
     items
 }
 
-/// The items of one rendering of an instance, whose code doesn't change what holds the fields.
+/// The items of one rendering of an instance, or nothing where its code is stuck.
+pub fn try_frames<O: Owners>(
+    alloc: Global,
+    compiled: &Compiled,
+    scope: &RunScope,
+    owners: &O,
+    fuel: &mut Fuel,
+) -> Result<Option<Items<Item>>, PageFault>
+    ensures means { Tries result fuel.new.left (frames_of compiled.now scope.now (O.fields owners.now) (O.parameters owners.now) fuel.old) }
+    ensures depth { fuel.new.depth ≡ fuel.old.depth }
+{
+    match drawn(alloc, compiled, scope, owners, fuel) {
+        Ok(items) => Ok(Some(items)),
+        Err(Exit::Fault(fault)) => Err(fault),
+        Err(Exit::Stuck) => Ok(None),
+    }
+}
+
+/// The items of one rendering of an instance. What its code would change of the fields is not kept.
 pub fn frames<O: Owners>(
     alloc: Global,
     compiled: &Compiled,
@@ -64,9 +82,8 @@ pub fn frames<O: Owners>(
     ensures means { Draws result fuel.new.left (frames_of compiled.now scope.now (O.fields owners.now) (O.parameters owners.now) fuel.old) }
     ensures depth { fuel.new.depth ≡ fuel.old.depth }
 {
-    match drawn(alloc, compiled, scope, owners, fuel) {
-        Ok(items) => Ok(items),
-        Err(Exit::Fault(fault)) => Err(fault),
-        Err(Exit::Stuck) => unreachable!(),
+    match try_frames(alloc, compiled, scope, owners, fuel)? {
+        Some(items) => Ok(items),
+        None => unreachable!(),
     }
 }

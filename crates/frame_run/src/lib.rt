@@ -1,7 +1,7 @@
 //! Makes the items of one rendering of one instance, under a budget of units.
 //!
 //! The contract of `frames` says that these are just the items of the program's operations, with the same units left, or the same
-//! fault at the same unit. It says nothing of operations whose code is stuck, nor that memory is found.
+//! fault at the same unit; `try_frames` says besides where code is stuck. None says that memory is found.
 #![tactic(auto)]
 
 mod attributes;
@@ -23,4 +23,4 @@ mod tags;
 mod texts;
 
 pub use drawing_meaning::PageFault;
-pub use frames::frames;
+pub use frames::{frames, try_frames};
