@@ -1,3 +1,4 @@
+pub mod TextLemmas
 pub mod ArgumentLemmas
 pub mod PartLemmas
 pub mod OutcomeLemmas

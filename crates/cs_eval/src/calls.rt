@@ -7,16 +7,17 @@ ghost use Rattle.cs_meaning.specs.Meaning.{running};
 ghost use Rattle.cs_meaning.specs.Scopes as scopes;
 ghost use Rattle.cs_eval.specs.Agrees.{Agrees, meaning_in, reached, setting_in};
 
+use crate::copying::copy;
 use crate::ending::end_body;
 use crate::evaluator::evaluate;
 use crate::exit::Exit;
 use crate::expressions::all;
+use crate::kinds::{Bound, into_callback, is_null};
 use crate::progress::{Around, Progress};
 use crate::statements::optional;
 use crate::store::Store;
 use cs_ast::{Code, Value};
 use cs_meaning::Fault;
-use cs_values::{Bound, copy, into_callback, is_null};
 use std::alloc::{AllocError, AllocFailed, Global};
 use std::mem;
 

@@ -12,13 +12,13 @@ ghost use Rattle.cs_eval.specs.Agrees.{Agrees, AgreesAs, meaning_in, reached};
 use crate::charging::{made, required};
 use crate::evaluator::evaluate;
 use crate::exit::Exit;
+use crate::kinds::{Parts, is_null, truth};
 use crate::operators::of_values;
 use crate::progress::{Around, Progress};
 use crate::reading::{use_record, with_parts};
 use crate::store::Store;
 use crate::variables::{operator_in, put, value_at};
 use cs_ast::{AssignOp, BinaryOp, Code, Value, Variable};
-use cs_values::{Parts, is_null, truth};
 
 /// The values of expressions, from left to right.
 #[cycle(evaluator)]

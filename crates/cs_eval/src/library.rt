@@ -6,12 +6,14 @@ ghost use Rattle.cs_meaning.specs.Library as spec;
 ghost use Rattle.cs_eval.specs.Agrees.{Agrees, AgreesAs, reached};
 
 use crate::charging::made;
+use crate::copying::copy_all;
 use crate::exit::Exit;
+use crate::kinds::{into_callback, is_null, string};
 use crate::progress::Progress;
 use crate::reading::{place_of, use_items};
+use crate::texts::shown;
 use cs_ast::{LibraryMember, Value};
 use cs_meaning::Fault;
-use cs_values::{copy_all, into_callback, is_null, shown, string};
 use sqlite_items::Items;
 use std::alloc::{AllocError, Global};
 use text_core::Txt;

@@ -7,16 +7,17 @@ ghost use Rattle.cs_meaning.specs.Scopes as scopes;
 ghost use Rattle.cs_meaning.specs.Statements as spec;
 ghost use Rattle.cs_eval.specs.Agrees.{Agrees, meaning_in, reached};
 
+use crate::copying::copy;
 use crate::ending::{end_scope, goes_on};
 use crate::evaluator::evaluate;
 use crate::exit::Exit;
+use crate::kinds::truth;
 use crate::progress::{Around, Progress};
 use crate::reading::use_items;
 use crate::statements::{optional, scoped};
 use crate::store::Store;
 use cs_ast::{Code, Value};
 use cs_meaning::Fault;
-use cs_values::{copy, truth};
 
 /// The test of a loop, which is true where there is none.
 #[cycle(evaluator)]

@@ -15,8 +15,8 @@ use crate::operators::{cast, of_value};
 use crate::progress::{Around, Progress};
 use crate::reading::{indexed, part_of, part_or_null, with_capture};
 use crate::store::Store;
+use crate::texts::all_joined;
 use cs_ast::{CastOp, Code, LibraryMember, UnaryOp, Value};
-use cs_values::all_joined;
 use sqlite_items::Items;
 
 /// The texts of these joined.

@@ -9,10 +9,11 @@ ghost use Rattle.cs_eval.specs.Agrees.{Agrees, reached};
 
 use crate::charging::new_text;
 use crate::exit::Exit;
+use crate::kinds::{is_null, number, string, truth};
 use crate::progress::Progress;
+use crate::texts::joined;
 use cs_ast::{BinaryOp, CastOp, StepOp, UnaryOp, Value, same};
 use cs_meaning::Fault;
-use cs_values::{is_null, joined, number, string, truth};
 use std::alloc::Global;
 
 fn sum(x: i32, y: i32) -> i32

@@ -9,11 +9,12 @@ ghost use Rattle.cs_meaning.specs.Calls as call;
 ghost use Rattle.cs_eval.specs.Agrees.{Agrees, AgreesAs, reached};
 
 use crate::charging::required;
+use crate::copying::copy;
 use crate::exit::Exit;
+use crate::kinds::{Bound, Parts, into_fragment, into_items, into_record, is_null, number};
 use crate::progress::{Around, Progress};
 use cs_ast::Value;
 use cs_meaning::Fault;
-use cs_values::{Bound, Parts, copy, into_fragment, into_items, into_record, is_null, number, picked};
 use sqlite_items::{Items, at as item_at};
 use std::alloc::{AllocError, Global};
 
@@ -154,6 +155,25 @@ pub(crate) fn with_parts(
         parts.set(at, copy(alloc, &values[i])?);
     }
     Ok(Some(parts))
+}
+
+/// Copies of the locals at these positions, if these are there.
+#[tactic(auto, using(crate::proofs::PartLemmas::picked_behind), unfolding(cs_meaning::specs::Calls::picked))]
+fn picked(
+    alloc: Global,
+    locals: &[Value],
+    positions: &[u32],
+) -> Result<Option<Items<Value>>, AllocError>
+    ensures { IfOk result (λ values. values ≡ call.picked locals.now positions.now) }
+{
+    let mut values = Items::new(alloc);
+    for at in positions {
+        let Some(value) = item_at(locals, *at as usize) else {
+            return Ok(None);
+        };
+        values.push(copy(alloc, value)?)?;
+    }
+    Ok(Some(values))
 }
 
 /// A method or lambda as a value, with the locals that it captures.

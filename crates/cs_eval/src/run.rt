@@ -1,9 +1,9 @@
 // Running code from the first unit to the last.
-ghost use Rattle.std.specs.Prelude.{◌≡◌, ◌≤◌, []};
+ghost use Rattle.std.specs.Prelude.{◌≡◌, []};
 ghost use Rattle.cs_meaning.specs.State.{state};
 ghost use Rattle.cs_meaning.specs.Outcome.{IsDefined};
 ghost use Rattle.cs_meaning.specs.Meaning.{body_meaning, setting};
-ghost use Rattle.cs_eval.specs.Run.{Means, Tries, Evaluates, TriesValue};
+ghost use Rattle.cs_eval.specs.Run.{Means, Tries, Evaluates};
 
 use crate::evaluator::evaluate;
 use crate::exit::Exit;
@@ -43,7 +43,6 @@ fn run_over<S: Store>(
         (body_meaning (setting who (S.parameters store.old) bodies.now fuel.old.depth) code.now
         (state locals.old.values.items (S.fields store.old) [] fuel.old.left)) }
     ensures depth { fuel.new.depth ≡ fuel.old.depth }
-    ensures spent { fuel.new.left ≤ fuel.old.left }
     ensures parameters { S.parameters store.new ≡ S.parameters store.old }
     ensures rest { S.rest store.new ≡ S.rest store.old }
 {
@@ -118,30 +117,6 @@ pub fn run_code<O: Owners>(
     }
 }
 
-/// Evaluates code of the instance `who`, and gives nothing where it is stuck. What it would change of the fields, and the receivers
-/// of its callbacks, are not kept.
-pub fn try_eval<O: Owners>(
-    alloc: Global,
-    code: &Code,
-    bodies: &Bodies,
-    who: u32,
-    locals: &mut Locals,
-    owners: &O,
-    fuel: &mut Fuel,
-) -> Result<Option<Value>, Fault>
-    ensures means { TriesValue result locals.new.values.items fuel.new.left
-        (body_meaning (setting who (O.parameters owners.now) bodies.now fuel.old.depth) code.now
-        (state locals.old.values.items (O.fields owners.now) [] fuel.old.left)) }
-    ensures depth { fuel.new.depth ≡ fuel.old.depth }
-    ensures spent { fuel.new.left ≤ fuel.old.left }
-{
-    let mut trial = Trial::new(alloc, owners);
-    match run_over(alloc, code, bodies, who, locals, &mut trial, fuel)? {
-        Some(ran) => Ok(Some(ran.value)),
-        None => Ok(None),
-    }
-}
-
 /// Evaluates code of the instance `who`. What it would change of the fields, and the receivers of its callbacks, are not kept.
 pub fn eval<O: Owners>(
     alloc: Global,
@@ -160,8 +135,9 @@ pub fn eval<O: Owners>(
         (state locals.old.values.items (O.fields owners.now) [] fuel.old.left)) }
     ensures depth { fuel.new.depth ≡ fuel.old.depth }
 {
-    match try_eval(alloc, code, bodies, who, locals, owners, fuel)? {
-        Some(value) => Ok(value),
+    let mut trial = Trial::new(alloc, owners);
+    match run_over(alloc, code, bodies, who, locals, &mut trial, fuel)? {
+        Some(ran) => Ok(ran.value),
         None => unreachable!(),
     }
 }

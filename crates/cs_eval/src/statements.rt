@@ -10,11 +10,11 @@ ghost use Rattle.cs_eval.specs.Agrees.{Agrees, meaning_in, reached};
 use crate::ending::{end_scope, end_section};
 use crate::evaluator::evaluate;
 use crate::exit::Exit;
+use crate::kinds::truth;
 use crate::progress::{Around, Progress};
 use crate::sections::selected;
 use crate::store::Store;
 use cs_ast::{Code, Value};
-use cs_values::truth;
 use sqlite_items::{Boxed, Items};
 
 /// Code that may be absent: null then.

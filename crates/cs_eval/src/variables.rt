@@ -10,12 +10,12 @@ ghost use Rattle.cs_meaning.specs.Variables as spec;
 ghost use Rattle.cs_eval.specs.Agrees.{Agrees, reached};
 
 use crate::exit::Exit;
+use crate::kinds::number;
 use crate::operators::{of_numbers, operator_of};
 use crate::progress::{Around, Progress};
 use crate::reading::found;
 use crate::store::Store;
 use cs_ast::{AssignOp, BinaryOp, BindKind, StepOp, Value, Variable};
-use cs_values::number;
 use sqlite_items::at as item_at;
 use text_core::{Oom, Txt, read_i32};
 

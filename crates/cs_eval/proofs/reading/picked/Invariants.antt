@@ -2,7 +2,7 @@ use Rattle.std.proofs.Common.{◌≡◌, ◌++◌, drop, List}
 use Rattle.std.specs.Prelude.{option_map}
 use Rattle.cs_ast.specs.declared.value.Value.{Value}
 use Rattle.cs_meaning.specs.Calls.{picked}
-use Rattle.cs_values.proofs.picking.picked.Given as goal
+use Rattle.cs_eval.proofs.reading.picked.Given as goal
 
 -- the values so far, and those that are still to be picked
 abbrev pub invariant-loop-at : goal.invariant-loop-at

@@ -1,5 +1,5 @@
 use Rattle.std.proofs.Common.{◌≡◌, take}
-use Rattle.cs_values.proofs.copying.+copy.Given as goal
+use Rattle.cs_eval.proofs.copying.+copy.Given as goal
 
 -- the values so far are copied
 abbrev pub invariant-copy_all-loop-value : goal.invariant-copy_all-loop-value

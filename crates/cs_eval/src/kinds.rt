@@ -7,7 +7,7 @@ use cs_ast::Value;
 use sqlite_items::Items;
 use text_core::Txt;
 
-pub fn number(value: &Value) -> Option<i32>
+pub(crate) fn number(value: &Value) -> Option<i32>
     ensures { result ≡ spec.number_of value.now }
 {
     match value {
@@ -16,7 +16,7 @@ pub fn number(value: &Value) -> Option<i32>
     }
 }
 
-pub fn truth(value: &Value) -> Option<bool>
+pub(crate) fn truth(value: &Value) -> Option<bool>
     ensures { result ≡ spec.truth_of value.now }
 {
     match value {
@@ -25,7 +25,7 @@ pub fn truth(value: &Value) -> Option<bool>
     }
 }
 
-pub fn string(value: &Value) -> Option<&Txt>
+pub(crate) fn string(value: &Value) -> Option<&Txt>
     ensures { option_copied result ≡ spec.string_of value.now }
 {
     match value {
@@ -34,14 +34,14 @@ pub fn string(value: &Value) -> Option<&Txt>
     }
 }
 
-pub fn is_null(value: &Value) -> bool
+pub(crate) fn is_null(value: &Value) -> bool
     ensures { result ≡ spec.is_null value.now }
 {
     matches!(value, Value::Null)
 }
 
 #[tactic(auto, using(cs_meaning::proofs::KindLemmas::items_some, cs_meaning::proofs::KindLemmas::items_none))]
-pub fn into_items(value: Value) -> Option<Items<Value>>
+pub(crate) fn into_items(value: Value) -> Option<Items<Value>>
     ensures { result ≡ spec.items_of value }
 {
     match value {
@@ -52,13 +52,13 @@ pub fn into_items(value: Value) -> Option<Items<Value>>
 
 /// A record taken apart.
 #[derive(Drop)]
-pub struct Parts {
-    pub kind: u32,
-    pub parts: Items<Value>,
+pub(crate) struct Parts {
+    pub(crate) kind: u32,
+    pub(crate) parts: Items<Value>,
 }
 
 #[tactic(auto, using(cs_meaning::proofs::KindLemmas::record_some, cs_meaning::proofs::KindLemmas::record_none))]
-pub fn into_record(value: Value) -> Option<Parts>
+pub(crate) fn into_record(value: Value) -> Option<Parts>
     ensures { option_map (λ it. (it.kind, it.parts)) result ≡ spec.record_of value }
 {
     match value {
@@ -69,14 +69,14 @@ pub fn into_record(value: Value) -> Option<Parts>
 
 /// A fragment or a callback taken apart.
 #[derive(Drop)]
-pub struct Bound {
-    pub who: u32,
-    pub place: u32,
-    pub captures: Items<Value>,
+pub(crate) struct Bound {
+    pub(crate) who: u32,
+    pub(crate) place: u32,
+    pub(crate) captures: Items<Value>,
 }
 
 #[tactic(auto, using(cs_meaning::proofs::KindLemmas::fragment_some, cs_meaning::proofs::KindLemmas::fragment_none))]
-pub fn into_fragment(value: Value) -> Option<Bound>
+pub(crate) fn into_fragment(value: Value) -> Option<Bound>
     ensures { option_map (λ it. (it.who, it.place, it.captures)) result ≡ spec.fragment_of value }
 {
     match value {
@@ -94,7 +94,7 @@ pub fn into_fragment(value: Value) -> Option<Bound>
 }
 
 #[tactic(auto, using(cs_meaning::proofs::KindLemmas::callback_some, cs_meaning::proofs::KindLemmas::callback_none))]
-pub fn into_callback(value: Value) -> Option<Bound>
+pub(crate) fn into_callback(value: Value) -> Option<Bound>
     ensures { option_map (λ it. (it.who, it.place, it.captures)) result ≡ spec.callback_of value }
 {
     match value {

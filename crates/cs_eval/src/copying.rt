@@ -7,7 +7,7 @@ use std::alloc::{AllocError, Global};
 
 /// A value that is equal to this one.
 #[cycle(copy)]
-pub fn copy(alloc: Global, value: &Value) -> Result<Value, AllocError>
+pub(crate) fn copy(alloc: Global, value: &Value) -> Result<Value, AllocError>
     ensures { IfOk result (λ copied. copied ≡ value.now) }
 {
     match value {
@@ -42,7 +42,7 @@ pub fn copy(alloc: Global, value: &Value) -> Result<Value, AllocError>
 }
 
 #[cycle(copy)]
-pub fn copy_all(alloc: Global, values: &[Value]) -> Result<Items<Value>, AllocError>
+pub(crate) fn copy_all(alloc: Global, values: &[Value]) -> Result<Items<Value>, AllocError>
     ensures { IfOk result (λ copied. copied ≡ values.now) }
 {
     let mut copied = Items::new(alloc);

@@ -8,7 +8,7 @@ use std::alloc::Global;
 use text_core::{Oom, Txt};
 
 /// The text that a value shows, if it shows one.
-pub fn shown(alloc: Global, value: &Value) -> Result<Option<Txt>, Oom>
+pub(crate) fn shown(alloc: Global, value: &Value) -> Result<Option<Txt>, Oom>
     ensures { IfOk result (λ text. text ≡ text_of value.now) }
 {
     match value {
@@ -20,7 +20,7 @@ pub fn shown(alloc: Global, value: &Value) -> Result<Option<Txt>, Oom>
 }
 
 /// What the two show, one behind the other.
-pub fn joined(alloc: Global, x: &Value, y: &Value) -> Result<Option<Txt>, Oom>
+pub(crate) fn joined(alloc: Global, x: &Value, y: &Value) -> Result<Option<Txt>, Oom>
     ensures { IfOk result (λ text. text ≡ appended (text_of x.now) (text_of y.now)) }
 {
     let Some(mut text) = shown(alloc, x)? else {
@@ -35,7 +35,7 @@ pub fn joined(alloc: Global, x: &Value, y: &Value) -> Result<Option<Txt>, Oom>
 
 /// What all show, one behind the other.
 #[tactic(auto, using(crate::proofs::TextLemmas::appended_more, crate::proofs::TextLemmas::appended_none), unfolding(cs_meaning::specs::NewValues::texts_of))]
-pub fn all_joined(alloc: Global, values: &[Value]) -> Result<Option<Txt>, Oom>
+pub(crate) fn all_joined(alloc: Global, values: &[Value]) -> Result<Option<Txt>, Oom>
     ensures { IfOk result (λ text. text ≡ texts_of values.now) }
 {
     let mut text = Txt::new(alloc);
