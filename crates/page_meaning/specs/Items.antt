@@ -1,5 +1,8 @@
 -- The items of one rendering of one instance.
-use Rattle.std.specs.Prelude.{ℕ, ◌+◌, List, [], ◌∷◌, ◌++◌, map}
+use Rattle.std.specs.Prelude.{ℕ, ◌+◌, List, [], ◌∷◌, ◌++◌, map, Option}
+use Rattle.std.specs.BTreeMap.{is_at}
+use Rattle.std.specs.Map.{lookup}
+use Rattle.std.specs.Ordering.{nat_cmp}
 use Rattle.cs_ast.specs.declared.code.Code.{Code}
 use Rattle.cs_meaning.specs.State.{Fields}
 use Rattle.cs_rules.specs.Judged.{Judged, fine, breaks}
@@ -11,7 +14,7 @@ use Rattle.frame_core.specs.declared.item.Item.{Item}
 use Rattle.razor_ast.specs.declared.component.Component.{Component}
 use Rattle.razor_rules.specs.Programs.{home_of}
 use Rattle.razor_rules.specs.Scopes.{Home, member_scope}
-use Rattle.page_meaning.specs.Placed.{Placed, members_placed, bodies_in, template_at}
+use Rattle.page_meaning.specs.Placed.{Placed, members_placed, with_entries, bodies_in, templates_in}
 use Rattle.page_meaning.specs.Parts.{part_of, placed_in, in_order}
 
 -- the bodies and templates of the component at a position
@@ -29,8 +32,12 @@ unfoldable pub placed : List Component → List (ℕ × Placed)
 placed components = placed_from components 0 components
 
 -- the bodies of a program by their numbers
-abbrev pub bodies : List Component → List (ℕ × Code)
-bodies components = bodies_in (placed components)
+unfoldable pub bodies : List Component → List (ℕ × Code)
+bodies components = with_entries [] (bodies_in (placed components))
+
+-- what its fragments do by their numbers
+unfoldable pub templates : List Component → ℕ → Option (List Act)
+templates components number = lookup (is_at (nat_cmp number)) (with_entries [] (templates_in (placed components)))
 
 -- what the template of a component does
 unfoldable pub template_acts : Home → Component → Judged (List Act)
@@ -45,7 +52,7 @@ module _ (components : List Component) (parameters : Fields) where
   -- the items of an instance of the component at a position, whose slot lies so deep in the page, from a state on
   unfoldable pub items_from : ℕ → Component → ℕ → ℕ → Drawing → Drawn (List Item)
   items_from position component who depth d =
-      items_of_acts (template_acts (home_of components position component) component) (stage_at parameters (bodies components) (template_at (placed components)) who 1 depth) d
+      items_of_acts (template_acts (home_of components position component) component) (stage_at parameters (bodies components) (templates components) who 1 depth) d
 
 -- the items of an instance of the component at a position, with these own fields and parameters of all instances, on 1,000,000 units; or the first fault
 abbrev pub items : List Component → Fields → Fields → ℕ → Component → ℕ → ℕ → Drawn (List Item)

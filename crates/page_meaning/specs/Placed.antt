@@ -1,6 +1,8 @@
 -- The bodies and the templates of a program by their numbers.
 use Rattle.std.specs.Prelude.{ℕ, ◌+◌, ◌==◌, map, List, [], ◌∷◌, ◌++◌, if◌then◌else◌, Option, Some, None, bytes_eq}
+use Rattle.std.specs.BTreeMap.{insert_entry}
 use Rattle.std.specs.List.{flat_map, filter_map}
+use Rattle.std.specs.Ordering.{nat_cmp}
 use Rattle.cs_ast.specs.declared.code.BindKind.{BindKind}
 use Rattle.cs_ast.specs.declared.code.BindKind.TheVariants as bind
 use Rattle.cs_ast.specs.declared.code.Code.{Code}
@@ -161,11 +163,15 @@ abbrev pub with_number : {A : Type 0} → ℕ → Option A → Option (ℕ × A)
 with_number number None = None
 with_number number (Some x) = Some (number, x)
 
+-- entries under their numbers, in rising order, behind others: of several of one number the last
+abbrev pub with_entries : {A : Type 0} → List (ℕ × A) → List (ℕ × A) → List (ℕ × A)
+with_entries entries [] = entries
+with_entries entries (one ∷ others) = with_entries (insert_entry nat_cmp entries one.0 one.1) others
+
 -- the bodies among these
 abbrev pub bodies_in : List (ℕ × Placed) → List (ℕ × Code)
 bodies_in all = filter_map (λ one. with_number one.0 (body_in one.1)) all
 
--- the template of a number
-abbrev pub template_at : List (ℕ × Placed) → ℕ → Option (List Act)
-template_at [] number = None
-template_at (one ∷ others) number = if one.0 == number then template_in one.1 else template_at others number
+-- the templates among these
+abbrev pub templates_in : List (ℕ × Placed) → List (ℕ × List Act)
+templates_in all = filter_map (λ one. with_number one.0 (template_in one.1)) all
