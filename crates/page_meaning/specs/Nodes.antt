@@ -16,7 +16,6 @@ use Rattle.cs_meaning.specs.Sections.{Section}
 use Rattle.cs_rules.specs.declared.checked.ExprType.{ExprType}
 use Rattle.cs_rules.specs.declared.checked.ExprType.TheVariants.{Of, Null, Markup}
 use Rattle.cs_rules.specs.Expressions.{items_of}
-use Rattle.cs_rules.specs.Judged.{Judged, fine, each, if_there, ◌>>=◌}
 use Rattle.cs_rules.specs.Names.{with_local}
 use Rattle.cs_rules.specs.Statements.{started, has_default}
 use Rattle.cs_rules.specs.Trees.{value_in, statement}
@@ -28,21 +27,21 @@ use Rattle.razor_ast.specs.declared.attribute.Attribute.{Attribute}
 use Rattle.razor_rules.specs.Scopes.{Home}
 use Rattle.razor_rules.specs.Templates.{Level}
 use Rattle.page_meaning.specs.Attributes.{dressed}
-use Rattle.page_meaning.specs.Resolved.{Makes, value_code}
+use Rattle.page_meaning.specs.Resolved.{Makes, Resolves, alone, judged, each, if_there, value_code, ◌>>=◌}
 
 unfoldable pub element : ℕ → List ℕ → List Attribute → Makes → Makes
 element number name attributes content home s = do
   worn ← dressed home s name attributes
   inside ← content home s
-  fine (act.element number name worn inside ∷ [])
+  alone (act.element number name worn inside ∷ [])
 
 -- a literal text
 unfoldable pub text : ℕ → List ℕ → Makes
-text number said home s = fine (act.text number said ∷ [])
+text number said home s = alone (act.text number said ∷ [])
 
 -- a literal text that is markup
 unfoldable pub raw : ℕ → List ℕ → Makes
-raw number said home s = fine (act.raw number said ∷ [])
+raw number said home s = alone (act.raw number said ∷ [])
 
 abbrev pub appears_level : CsType-F CsType → Appears
 appears_level (CsType-F.Fragment argument) = as_fragment
@@ -56,14 +55,14 @@ appears Null = as_text
 
 unfoldable pub content : ℕ → Expr → Makes
 content number a home s = do
-  x ← value_in s a
-  fine (act.content number (appears x.expr_type) x.code ∷ [])
+  x ← judged (value_in s a)
+  alone (act.content number (appears x.expr_type) x.code ∷ [])
 
-abbrev pub statement_level : Level → Stmt → Scope → Judged (List Act)
-statement_level StmtKind-F.Break one s = fine (act.break_out ∷ [])
+abbrev pub statement_level : Level → Stmt → Scope → Resolves (List Act)
+statement_level StmtKind-F.Break one s = alone (act.break_out ∷ [])
 statement_level _ one s = do
-  it ← statement one s
-  fine (act.statement it.code ∷ [])
+  it ← judged (statement one s)
+  alone (act.statement it.code ∷ [])
 
 -- a statement without statements in it; a `break` is one of a `switch`
 unfoldable pub plain_statement : Stmt → Makes
@@ -72,10 +71,10 @@ plain_statement one home s = statement_level (out-StmtKind one.kind) one s
 unfoldable pub block : Makes → Makes
 block makes home s = do
   acts ← makes home s
-  fine (act.block acts ∷ [])
+  alone (act.block acts ∷ [])
 
 abbrev pub or_nothing : Option Makes → Makes
-or_nothing None home s = fine []
+or_nothing None home s = alone []
 or_nothing (Some makes) home s = makes home s
 
 unfoldable pub branch : Expr → Makes → Option Makes → Makes
@@ -83,7 +82,7 @@ branch test one other home s = do
   code ← value_code s test
   holds ← one home s
   fails ← or_nothing other home s
-  fine (act.branch code holds fails ∷ [])
+  alone (act.branch code holds fails ∷ [])
 
 -- the constants of labels
 abbrev pub constant_of : LabelKind → List Value
@@ -96,35 +95,35 @@ constant_of label.Default = []
 abbrev pub section_of : List Label → Makes → Section Makes
 section_of labels makes = record { constants = flat_map (λ one. constant_of one.kind) labels; otherwise = has_default labels; statements = makes }
 
-abbrev pub section_acts : Home → Scope → Section Makes → Judged (Section (List Act))
+abbrev pub section_acts : Home → Scope → Section Makes → Resolves (Section (List Act))
 section_acts home s section = do
   acts ← section.statements home s
-  fine (record { constants = section.constants; otherwise = section.otherwise; statements = acts })
+  alone (record { constants = section.constants; otherwise = section.otherwise; statements = acts })
 
 unfoldable pub switch : Expr → List (Section Makes) → Makes
 switch a sections home s = do
   code ← value_code s a
   all ← each (section_acts home s) sections
-  fine (act.switch code all ∷ [])
+  alone (act.switch code all ∷ [])
 
 unfoldable pub while_loop : ℕ → Expr → Option ℕ → Makes → Makes
 while_loop number test keyed body home s = do
   code ← value_code s test
   turn ← body home s
-  fine (turns.while_loop number code keyed turn ∷ [])
+  alone (turns.while_loop number code keyed turn ∷ [])
 
 -- the start is in the scope of the whole loop
 unfoldable pub for_loop : ℕ → Option Stmt → Option Expr → Option Expr → Option ℕ → Makes → Makes
 for_loop number start test step keyed body home s = do
-  first ← started (option_map statement start) s
+  first ← judged (started (option_map statement start) s)
   code ← if_there (value_code first.1) test
   next ← if_there (value_code first.1) step
   turn ← body home first.1
-  fine (turns.for_loop number first.0 code next keyed turn ∷ [])
+  alone (turns.for_loop number first.0 code next keyed turn ∷ [])
 
 unfoldable pub for_each : ℕ → List ℕ → Expr → Option ℕ → Makes → Makes
 for_each number name list keyed body home s = do
-  x ← value_in s list
-  item ← items_of x.place x.expr_type
+  x ← judged (value_in s list)
+  item ← judged (items_of x.place x.expr_type)
   turn ← body home (with_local s name item)
-  fine (turns.for_each number x.code keyed turn ∷ [])
+  alone (turns.for_each number x.code keyed turn ∷ [])

@@ -9,15 +9,14 @@ use Rattle.cs_ast.specs.declared.expression.Expr.{Expr}
 use Rattle.cs_ast.specs.declared.member.Member.{Member}
 use Rattle.cs_ast.specs.declared.member.MemberKind.{MemberKind}
 use Rattle.cs_ast.specs.declared.member.MemberKind.TheVariants.{Parameter}
-use Rattle.cs_ast.specs.declared.scope.Named.{Named}
 use Rattle.cs_ast.specs.declared.scope.Scope.{Scope}
 use Rattle.cs_rules.specs.declared.checked.ExprType.{ExprType}
 use Rattle.cs_rules.specs.declared.checked.ExprType.TheVariants.{Of}
 use Rattle.cs_rules.specs.declared.rule.Rule.TheVariants.{UnknownParameter}
-use Rattle.cs_rules.specs.Judged.{Judged, fine, breaks, known, mismatch, ◌>>=◌}
+use Rattle.cs_rules.specs.Judged.{fine, breaks, known, mismatch}
 use Rattle.cs_rules.specs.Trees.{value_in}
 use Rattle.cs_rules.specs.Written.{type_of}
-use Rattle.drawing_meaning.specs.Tags.{Gives, given_text, given_value, given_key, given_content, given_fragment}
+use Rattle.drawing_meaning.specs.Tags.{Gives, given_text, given_value, given_key}
 use Rattle.frame_core.specs.declared.made.Made.{Made}
 use Rattle.frame_core.specs.declared.made.Made.TheVariants as made
 use Rattle.razor_ast.specs.declared.attribute.Attribute.{Attribute}
@@ -29,8 +28,7 @@ use Rattle.razor_ast.specs.declared.component.Component.{Component}
 use Rattle.razor_rules.specs.Parameters.{is_text, component_named}
 use Rattle.razor_rules.specs.Scopes.{Home}
 use Rattle.page_meaning.specs.Callbacks.{callback}
-use Rattle.page_meaning.specs.Captures.{positions_of}
-use Rattle.page_meaning.specs.Resolved.{value_code, each_of, place_at}
+use Rattle.page_meaning.specs.Resolved.{Resolves, alone, judged, each_of, value_code, ◌>>=◌}
 
 abbrev pub parameter_or : List ℕ → MemberKind → ℕ → (ℕ → Option (ℕ × CsType)) → Option (ℕ × CsType)
 parameter_or name (Parameter cascading source cs_type other initial) number further = if bytes_eq other.name name then Some (number, type_of cs_type) else further (number + 1)
@@ -51,54 +49,45 @@ pub record Target : Type 0 where
   pub made : Made
   pub parameter : List ℕ → Option (ℕ × CsType)
 
-abbrev pub expression_code : Home → Scope → ℕ → CsType-F CsType → Expr → Judged Code
-expression_code home s number (CsType-F.Callback argument) a = callback home s number a
+abbrev pub expression_code : Home → Scope → ℕ → CsType-F CsType → Expr → Resolves Code
+expression_code home s number (CsType-F.Callback argument) a = callback home s number a argument
 expression_code home s number _ a = value_code s a
 
 -- the code of an expression for a parameter of a type
-abbrev pub supplied_code : Home → Scope → ℕ → CsType → Expr → Judged Code
+unfoldable pub supplied_code : Home → Scope → ℕ → CsType → Expr → Resolves Code
 supplied_code home s number cs_type a = expression_code home s number (out-CsType cs_type) a
 
 module _ (home : Home) (s : Scope) (target : Target) where
-  abbrev pub expression_gift : ℕ → ℕ × CsType → Expr → Judged (List Gives)
+  abbrev pub expression_gift : ℕ → ℕ × CsType → Expr → Resolves (List Gives)
   expression_gift number it a = do
     code ← supplied_code home s number it.1 a
-    fine (given_value it.0 code ∷ [])
+    alone (given_value it.0 code ∷ [])
 
-  abbrev pub if_said : ℕ → ℕ × CsType → Place → Option Expr → Judged (List Gives)
-  if_said number it place None = mismatch place
+  abbrev pub if_said : ℕ → ℕ × CsType → Place → Option Expr → Resolves (List Gives)
+  if_said number it place None = judged (mismatch place)
   if_said number it place (Some a) = expression_gift number it a
 
   -- what a parameter of a type is given by an attribute: its text where the type is a text's, else its expression
-  abbrev pub given_gift : ℕ → ℕ × CsType → Given → Judged (List Gives)
-  given_gift number it given.Nothing = fine (given_text it.0 [] ∷ [])
-  given_gift number it (given.Text place said a) = if is_text it.1 then fine (given_text it.0 said ∷ []) else if_said number it place a
+  abbrev pub given_gift : ℕ → ℕ × CsType → Given → Resolves (List Gives)
+  given_gift number it given.Nothing = alone (given_text it.0 [] ∷ [])
+  given_gift number it (given.Text place said a) = if is_text it.1 then alone (given_text it.0 said ∷ []) else if_said number it place a
   given_gift number it (given.Value a) = expression_gift number it a
 
-  abbrev pub attribute_gift : AttributeKind → Place → List ℕ → Judged (List Gives)
-  attribute_gift (ak.Parameter number given) place name = do
-    it ← known UnknownParameter place (target.parameter name)
+  unfoldable pub parameter_gift : ℕ → Given → Place → List ℕ → Resolves (List Gives)
+  parameter_gift number given place name = do
+    it ← judged (known UnknownParameter place (target.parameter name))
     given_gift number it given
+
+  abbrev pub attribute_gift : AttributeKind → Place → List ℕ → Resolves (List Gives)
+  attribute_gift (ak.Parameter number given) place name = parameter_gift number given place name
   attribute_gift (ak.Key a) place name = do
     code ← value_code s a
-    fine (given_key code ∷ [])
-  attribute_gift _ place name = fine []
+    alone (given_key code ∷ [])
+  attribute_gift _ place name = alone []
 
   -- what attributes give, one after another
-  abbrev pub attribute_gifts : List Attribute → Judged (List Gives)
+  abbrev pub attribute_gifts : List Attribute → Resolves (List Gives)
   attribute_gifts attributes = each_of (λ one. attribute_gift one.kind one.place one.name) attributes
-
-  -- a fragment of the present instance for a parameter, over these locals
-  abbrev pub content_gift : Place → List ℕ → ℕ → List Named → Judged Gives
-  content_gift place name number locals = do
-    it ← known UnknownParameter place (target.parameter name)
-    fine (given_content it.0 (place_at home number) (positions_of locals))
-
-  -- the same by a tag of its own
-  abbrev pub fragment_gift : Place → List ℕ → ℕ → List Named → Judged Gives
-  fragment_gift place name number locals = do
-    it ← known UnknownParameter place (target.parameter name)
-    fine (given_fragment it.0 (place_at home number) (positions_of locals))
 
 -- the places of the parameters of the built-in provider, whose value is of a type
 abbrev pub provider_parameter : CsType → List ℕ → Option (ℕ × CsType)
