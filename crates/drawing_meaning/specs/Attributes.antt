@@ -1,9 +1,9 @@
 -- What the attributes of an element make.
-use Rattle.std.specs.Prelude.{ℕ, ◌+◌, List, [], ◌∷◌, ◌++◌, Option, Some, None}
+use Rattle.std.specs.Prelude.{ℕ, ◌+◌, List, [], ◌∷◌, ◌++◌, if◌then◌else◌, Option, Some, None}
 use Rattle.cs_ast.specs.declared.code.Code.{Code}
 use Rattle.cs_ast.specs.declared.value.Value.{Value}
 use Rattle.cs_ast.specs.declared.value.Value.TheVariants as v
-use Rattle.cs_meaning.specs.Kinds.{callback_of}
+use Rattle.cs_meaning.specs.Kinds.{is_null, callback_of}
 use Rattle.frame_core.specs.declared.item_attribute.ItemAttribute.{ItemAttribute}
 use Rattle.frame_core.specs.declared.item_attribute.ItemValue.{ItemValue}
 use Rattle.frame_core.specs.declared.item_attribute.ItemValue.TheVariants as stands
@@ -30,10 +30,9 @@ with_handler number name it = do
 
 -- the handler that a value is; none where it is null
 abbrev pub handler_of : ℕ → List ℕ → Value → Draws (List ItemAttribute)
-handler_of number name v.Null = done []
-handler_of number name x = do
+handler_of number name x = if is_null x then done [] else (do
   it ← known (callback_of x)
-  with_handler number name it
+  with_handler number name it)
 
 -- an attribute without a value: an empty text
 unfoldable pub empty : ℕ → List ℕ → Stage → Draws (List ItemAttribute)

@@ -3,7 +3,7 @@ use Rattle.std.specs.Prelude.{ℕ, List, [], ◌∷◌, true, if◌then◌else�
 use Rattle.cs_ast.specs.declared.code.Code.{Code}
 use Rattle.cs_ast.specs.declared.value.Value.{Value}
 use Rattle.cs_ast.specs.declared.value.Value.TheVariants as v
-use Rattle.cs_meaning.specs.Kinds.{fragment_of}
+use Rattle.cs_meaning.specs.Kinds.{is_null, fragment_of}
 use Rattle.cs_meaning.specs.Sections.{Section, selected}
 use Rattle.frame_core.specs.declared.item.Item.{Item}
 use Rattle.frame_core.specs.declared.item.Item.TheVariants as item
@@ -41,11 +41,10 @@ Appears = ℕ → Value → Stage → Draws (List Item)
 
 -- a fragment is a region with what it shows; null is none
 unfoldable pub as_fragment : Appears
-as_fragment number v.Null stage = done []
-as_fragment number x stage = do
+as_fragment number x stage = if is_null x then done [] else (do
   it ← known (fragment_of x)
   items ← stage.show it.0 it.1 it.2 stage.depth
-  done (item.Region number v.Null items ∷ [])
+  done (item.Region number v.Null items ∷ []))
 
 unfoldable pub as_text : Appears
 as_text number x stage = do

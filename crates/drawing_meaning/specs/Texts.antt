@@ -1,10 +1,9 @@
 -- The texts that values show as content and as attributes.
-use Rattle.std.specs.Prelude.{ℕ, List, [], ◌∷◌, ◌++◌, true, false, Option, Some, None}
+use Rattle.std.specs.Prelude.{ℕ, Bool, List, [], ◌∷◌, ◌++◌, if◌then◌else◌, Option, Some, None}
 use Rattle.cs_ast.specs.Texts.{text_of}
 use Rattle.cs_ast.specs.declared.code.Code.{Code}
 use Rattle.cs_ast.specs.declared.value.Value.{Value}
-use Rattle.cs_ast.specs.declared.value.Value.TheVariants as v
-use Rattle.cs_meaning.specs.Kinds.{string_of}
+use Rattle.cs_meaning.specs.Kinds.{truth_of, string_of, is_null}
 use Rattle.cs_meaning.specs.NewValues.{new_text}
 use Rattle.drawing_meaning.specs.Drawing.{Draws, done, run, known, ◌>>=◌}
 use Rattle.drawing_meaning.specs.Stages.{Stage, code_value}
@@ -20,12 +19,13 @@ some_shown x = do
   text ← shown x
   done (Some text)
 
+abbrev pub text_by_truth : Option Bool → Value → Draws (Option (List ℕ))
+text_by_truth (Some truth) x = done (if truth then Some [] else None)
+text_by_truth None x = if is_null x then done None else some_shown x
+
 -- the text of an attribute that is one expression: none for `false` and null, empty for `true`
 abbrev pub attribute_text : Value → Draws (Option (List ℕ))
-attribute_text (v.Bool true) = done (Some [])
-attribute_text (v.Bool false) = done None
-attribute_text v.Null = done None
-attribute_text x = some_shown x
+attribute_text x = text_by_truth (truth_of x) x
 
 -- what a part of the text of an attribute shows
 abbrev pub Says : Type 0
