@@ -15,7 +15,7 @@ use Rattle.cs_ast.specs.declared.member.MemberKind.TheVariants.{Method, Getter}
 use Rattle.cs_ast.specs.declared.scope.Scope.{Scope}
 use Rattle.cs_forbidden.specs.Roots.{nothing}
 use Rattle.cs_rules.specs.Judged.{Judged}
-use Rattle.cs_rules.specs.Judged as judging
+use Rattle.cs_rules.specs.Judged.{◌>>=◌ as ◌>>>=◌}
 use Rattle.cs_rules.specs.Written.{type_of}
 use Rattle.cs_typing.specs.Types.{Signature}
 use Rattle.cs_typing.specs.Expressions.{arguments_or_one}
@@ -77,7 +77,7 @@ abbrev pub scope_in_lambda : Home → Scope → Expr → Option Ident → Option
 scope_in_lambda home s a name argument = lambda_scope (with_captured (used (λ deed. expression_does deed a) s) (member_scope home)) a.place name argument
 
 abbrev pub lambda_code : Home → Scope → Expr → Option Ident → Body → Option CsType → Judged Code
-lambda_code home s a name of argument = judging.◌>>=◌ (scope_in_lambda home s a name argument) (λ inner. judged_body nothing inner of)
+lambda_code home s a name of argument = scope_in_lambda home s a name argument >>>= λ inner. judged_body nothing inner of
 
 -- the body of a lambda, which may take such an argument, under a number
 unfoldable pub lambda_body : Home → Scope → ℕ → Expr → Option Ident → Body → Option CsType → Resolves (Unit {0})
