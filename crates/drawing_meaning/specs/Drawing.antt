@@ -86,9 +86,11 @@ begun bytes d =
 unfoldable pub begun_at : ℕ → ℕ → Draws (Unit {0})
 begun_at depth bytes d = if nat_lt 1000 depth then faults PageTooLarge d else begun bytes d
 
--- the place of a component among those of the rendering
-unfoldable pub next_component : Draws ℕ
-next_component d = gives d.components (record d { components = d.components + 1 })
+-- a component, which is an item without bytes of its own: its place among those of the rendering
+unfoldable pub component_begun : Draws ℕ
+component_begun = do
+  here ← begun 0
+  λ d. gives d.components (record d { components = d.components + 1 })
 
 -- what comes to an end, with a fault or without one
 abbrev pub IsDrawn : {A : Type 0} → Drawn A → Type 0

@@ -7,7 +7,7 @@ use Rattle.frame_core.specs.declared.item.Item.TheVariants as item
 use Rattle.frame_core.specs.declared.item.ItemParameter.{ItemParameter}
 use Rattle.frame_core.specs.declared.made.Made.{Made}
 use Rattle.drawing_meaning.specs.declared.output.Gifts.{Gifts}
-use Rattle.drawing_meaning.specs.Drawing.{Draws, done, pay, begun, next_component, ◌>>=◌}
+use Rattle.drawing_meaning.specs.Drawing.{Draws, done, pay, component_begun, ◌>>=◌}
 use Rattle.drawing_meaning.specs.Stages.{Stage, code_value, values_at}
 use Rattle.drawing_meaning.specs.Acts.{Act, output}
 
@@ -67,7 +67,6 @@ all_given (one ∷ others) stage key = do
 unfoldable pub component : ℕ → Made → List Gives → Act
 component number made parts stage = do
   paid ← pay
-  here ← begun 0
-  order ← next_component
+  order ← component_begun
   it ← all_given parts stage v.Null
   done (output (item.Component number order made it.key it.supplied ∷ []))
