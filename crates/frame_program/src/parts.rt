@@ -24,9 +24,16 @@ pub enum AttributePart {
     /// `@key`
     Key(Code),
     /// An attribute without a value.
-    Empty { number: u32, name: Txt },
+    Empty {
+        number: u32,
+        name: Txt,
+    },
     /// An attribute whose value is one expression.
-    Whole { number: u32, name: Txt, code: Code },
+    Whole {
+        number: u32,
+        name: Txt,
+        code: Code,
+    },
     /// An attribute whose value is a text of several parts.
     Mixed {
         number: u32,
@@ -34,9 +41,17 @@ pub enum AttributePart {
         parts: Items<TextPart>,
     },
     /// The handler of an event.
-    Event { number: u32, name: Txt, code: Code },
+    Event {
+        number: u32,
+        name: Txt,
+        code: Code,
+    },
     /// The handler of the body of this number, as that of a bound field.
-    Handler { number: u32, name: Txt, place: u32 },
+    Handler {
+        number: u32,
+        name: Txt,
+        place: u32,
+    },
 }
 
 /// What a part of a component's tag does: it gives a parameter by its place.
