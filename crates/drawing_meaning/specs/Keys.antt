@@ -5,9 +5,9 @@ use Rattle.cs_ast.specs.declared.value.Value.{Value}
 use Rattle.cs_ast.specs.declared.value.Value.TheVariants as v
 use Rattle.cs_meaning.specs.Kinds.{is_null}
 use Rattle.cs_meaning.specs.Equality.{is_same}
-use Rattle.page_meaning.specs.declared.fault.PageFault.TheVariants.{DuplicateKey}
+use Rattle.drawing_meaning.specs.declared.fault.PageFault.TheVariants.{DuplicateKey}
 use Rattle.frame_core.specs.declared.item.Item.{Item, Item-F, out-Item}
-use Rattle.page_meaning.specs.Drawing.{Draws, gives, faults}
+use Rattle.drawing_meaning.specs.Drawing.{Draws, gives, faults}
 
 -- a key that isn't null, by the number of its item
 abbrev pub if_key : ℕ → Value → Option (ℕ × Value)
