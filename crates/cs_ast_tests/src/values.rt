@@ -2,6 +2,7 @@
 use cs_ast::{Bodies, Code, Value, same, show, size};
 use sqlite_items::Items;
 use std::alloc::Global;
+use std::process::Abort;
 use std::test::Fail;
 use text_core::{Oom, Txt};
 
@@ -37,6 +38,10 @@ fn compounds(alloc: Global, number: i32, word: &str) -> Result<[Value; 4], Oom> 
     ])
 }
 
+fn compares(rt: &impl Abort, a: &Value, b: &Value, expected: bool) {
+    assert_eq!(rt; same(a, b), expected, "{a:?}, {b:?}");
+}
+
 #[test]
 fn compares_by_content(rt: HostRuntime) -> Result<(), Fail> {
     let alloc = rt.alloc();
@@ -51,18 +56,17 @@ fn compares_by_content(rt: HostRuntime) -> Result<(), Fail> {
             assert!(rt; !same(one, other));
         }
     }
-    for (a, b, expected) in [
-        (Value::Int(1), Value::Int(1), true),
-        (Value::Int(1), Value::Int(-1), false),
-        (Value::Bool(true), Value::Bool(true), true),
-        (Value::Bool(true), Value::Int(1), false),
-        (Value::Null, Value::Null, true),
-        (Value::Null, text(alloc, "")?, false),
-        (text(alloc, "a")?, text(alloc, "a")?, true),
-        (text(alloc, "a")?, text(alloc, "ab")?, false),
-    ] {
-        assert_eq!(rt; same(&a, &b), expected, "{a:?}, {b:?}");
-    }
+    let empty = text(alloc, "")?;
+    let one = text(alloc, "a")?;
+    let longer = text(alloc, "ab")?;
+    compares(&rt, &Value::Int(1), &Value::Int(1), true);
+    compares(&rt, &Value::Int(1), &Value::Int(-1), false);
+    compares(&rt, &Value::Bool(true), &Value::Bool(true), true);
+    compares(&rt, &Value::Bool(true), &Value::Int(1), false);
+    compares(&rt, &Value::Null, &Value::Null, true);
+    compares(&rt, &Value::Null, &empty, false);
+    compares(&rt, &one, &one, true);
+    compares(&rt, &one, &longer, false);
     Ok(())
 }
 
@@ -80,21 +84,21 @@ fn shows_values(rt: HostRuntime) -> Result<(), Fail> {
     Ok(())
 }
 
+fn measures(rt: &impl Abort, value: &Value, expected: u64) {
+    assert_eq!(rt; size(value), expected, "{value:?}");
+}
+
 #[test]
 fn measures_values(rt: HostRuntime) -> Result<(), Fail> {
     let alloc = rt.alloc();
-    for (value, expected) in [
-        (Value::Int(-1), 4),
-        (Value::Bool(false), 1),
-        (Value::Null, 1),
-        (text(alloc, "")?, 1),
-        (text(alloc, "aé")?, 4),
-        (Value::List(Items::new(alloc)), 1),
-    ] {
-        assert_eq!(rt; size(&value), expected, "{value:?}");
-    }
+    measures(&rt, &Value::Int(-1), 4);
+    measures(&rt, &Value::Bool(false), 1);
+    measures(&rt, &Value::Null, 1);
+    measures(&rt, &text(alloc, "")?, 1);
+    measures(&rt, &text(alloc, "aé")?, 4);
+    measures(&rt, &Value::List(Items::new(alloc)), 1);
     for (value, expected) in compounds(alloc, 5, "aé")?.iter().zip([9, 9, 1, 1]) {
-        assert_eq!(rt; size(value), expected, "{value:?}");
+        measures(&rt, value, expected);
     }
     Ok(())
 }

@@ -1,8 +1,9 @@
 // Ids of a few handlers, by hand.
-use handler_ids::{Found, HandlerValue, Handlers};
 use cs_ast::Value;
+use handler_ids::{Found, HandlerValue, Handlers};
 use sqlite_items::Items;
 use std::alloc::Global;
+use std::process::Abort;
 use std::test::Fail;
 use text_core::{Oom, Txt};
 
@@ -35,25 +36,41 @@ fn named(handlers: &mut Handlers, old: Option<u64>, value: HandlerValue) -> Resu
     Ok(handlers.keep_or_give(Some(id), value, 2)?)
 }
 
+/// The old id, a handler, and the id that it gets.
+type Row = (Option<u64>, u32, u32, &'static str, i32, u64);
+
+fn is_named(
+    rt: &impl Abort,
+    alloc: Global,
+    handlers: &mut Handlers,
+    row: &Row,
+) -> Result<(), Fail> {
+    let (old, who, place, event, number, expected) = *row;
+    let value = handler(alloc, who, place, event, number)?;
+    let id = named(handlers, old, value)?;
+    assert_eq!(rt; id, expected, "{who} {place} {event} {number}");
+    Ok(())
+}
+
+// Each next id, where something differs.
+const NAMED: &[Row] = &[
+    (None, 1, 2, "onclick", 3, 2),
+    (Some(1), 1, 2, "onclick", 3, 1),
+    (Some(1), 2, 2, "onclick", 3, 3),
+    (Some(1), 1, 3, "onclick", 3, 4),
+    (Some(1), 1, 2, "onchange", 3, 5),
+    (Some(1), 1, 2, "onclick", 4, 6),
+    (Some(1), 1, 2, "onclick", 3, 1),
+];
+
 #[test]
 fn keeps_an_id_where_its_value_is_equal(rt: HostRuntime) -> Result<(), Fail> {
     let alloc = rt.alloc();
     let mut handlers = Handlers::new(alloc);
     let first = handlers.keep_or_give(None, handler(alloc, 1, 2, "onclick", 3)?, 1)?;
     assert_eq!(rt; first, 1);
-    // Each next id, where something differs.
-    for (old, who, place, event, number, expected) in [
-        (None, 1, 2, "onclick", 3, 2),
-        (Some(1), 1, 2, "onclick", 3, 1),
-        (Some(1), 2, 2, "onclick", 3, 3),
-        (Some(1), 1, 3, "onclick", 3, 4),
-        (Some(1), 1, 2, "onchange", 3, 5),
-        (Some(1), 1, 2, "onclick", 4, 6),
-        (Some(1), 1, 2, "onclick", 3, 1),
-    ] {
-        let value = handler(alloc, who, place, event, number)?;
-        let id = named(&mut handlers, old, value)?;
-        assert_eq!(rt; id, expected, "{who} {place} {event} {number}");
+    for row in NAMED {
+        is_named(&rt, alloc, &mut handlers, row)?;
     }
     Ok(())
 }

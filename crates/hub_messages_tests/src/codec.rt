@@ -73,41 +73,48 @@ fn event(alloc: Global, text: Option<&str>) -> Result<Up, Fail> {
 
 const ONCLICK: [u8; 8] = [7, 0x6F, 0x6E, 0x63, 0x6C, 0x69, 0x63, 0x6B];
 
+// Encodes and decodes a message of the browser.
+fn goes_up(rt: &impl Abort, alloc: Global, message: &Up, parts: &[&[u8]]) -> Result<(), Fail> {
+    let bytes = joined(alloc, parts)?;
+    assert!(rt; is_short_up(message));
+    assert_eq!(rt; encode_up(alloc, message)?.as_slice(), bytes.as_slice());
+    let decoded = decode_up(alloc, &bytes)?;
+    assert!(rt; is_short_up(&decoded));
+    assert_eq!(rt; encode_up(alloc, &decoded)?.as_slice(), bytes.as_slice());
+    Ok(())
+}
+
 #[test]
 fn messages_of_a_browser(rt: HostRuntime) -> Result<(), Fail> {
     let alloc = rt.alloc();
-    for (message, parts) in [
-        (Up::Start, [[1, 1].as_slice(), &[], &[], &[], &[], &[]]),
-        (
-            Up::Connect {
-                number: 1,
-                secret: 2,
-                applied: 0,
-                got: 0xFFFF_FFFF_FFFF_FFFF,
-            },
-            [&[2, 1], &ONE, &TWO, &[0; 8], &[0xFF; 8], &[]],
-        ),
-        (
-            event(alloc, None)?,
-            [&[3], &ONE, &ONE, &[0; 8], &ONCLICK, &[0]],
-        ),
-        (
-            event(alloc, Some("é"))?,
-            [&[3], &ONE, &ONE, &[0; 8], &ONCLICK, &[1, 2, 0xC3, 0xA9]],
-        ),
-        (
-            Up::Ack { batch: 2, got: 1 },
-            [&[4], &TWO, &ONE, &[], &[], &[]],
-        ),
-    ] {
-        let bytes = joined(alloc, &parts)?;
-        assert!(rt; is_short_up(&message));
-        assert_eq!(rt; encode_up(alloc, &message)?.as_slice(), bytes.as_slice());
-        let decoded = decode_up(alloc, &bytes)?;
-        assert!(rt; is_short_up(&decoded));
-        assert_eq!(rt; encode_up(alloc, &decoded)?.as_slice(), bytes.as_slice());
-    }
-    Ok(())
+    goes_up(&rt, alloc, &Up::Start, &[&[1, 1]])?;
+    let connect = Up::Connect {
+        number: 1,
+        secret: 2,
+        applied: 0,
+        got: 0xFFFF_FFFF_FFFF_FFFF,
+    };
+    goes_up(
+        &rt,
+        alloc,
+        &connect,
+        &[&[2, 1], &ONE, &TWO, &[0; 8], &[0xFF; 8]],
+    )?;
+    let parts = [[3].as_slice(), &ONE, &ONE, &[0; 8], &ONCLICK];
+    let bytes = joined(alloc, &parts)?;
+    goes_up(&rt, alloc, &event(alloc, None)?, &[&bytes, &[0]])?;
+    goes_up(
+        &rt,
+        alloc,
+        &event(alloc, Some("é"))?,
+        &[&bytes, &[1, 2, 0xC3, 0xA9]],
+    )?;
+    goes_up(
+        &rt,
+        alloc,
+        &Up::Ack { batch: 2, got: 1 },
+        &[&[4], &TWO, &ONE],
+    )
 }
 
 // Encodes and decodes a message of the server.
@@ -144,110 +151,121 @@ fn messages_of_the_server(rt: HostRuntime) -> Result<(), Fail> {
     Ok(())
 }
 
+const OUTCOMES: &[(Outcome, &[u8])] = &[
+    (Outcome::Acted, &[1]),
+    (Outcome::HandlerUnknown, &[2]),
+    (
+        Outcome::HandlerGone { batch: 1 },
+        &[3, 1, 0, 0, 0, 0, 0, 0, 0],
+    ),
+    (Outcome::ComponentGone, &[4]),
+    (Outcome::WrongEvent, &[5]),
+    (Outcome::BadArguments, &[6]),
+];
+
 #[test]
 fn outcomes(rt: HostRuntime) -> Result<(), Fail> {
     let alloc = rt.alloc();
-    let table: [(Outcome, &[u8]); 6] = [
-        (Outcome::Acted, &[1]),
-        (Outcome::HandlerUnknown, &[2]),
-        (
-            Outcome::HandlerGone { batch: 1 },
-            &[3, 1, 0, 0, 0, 0, 0, 0, 0],
-        ),
-        (Outcome::ComponentGone, &[4]),
-        (Outcome::WrongEvent, &[5]),
-        (Outcome::BadArguments, &[6]),
-    ];
-    for (outcome, bytes) in table {
-        let message = Down::Outcome { event: 2, outcome };
+    for (outcome, bytes) in OUTCOMES {
+        let message = Down::Outcome {
+            event: 2,
+            outcome: *outcome,
+        };
         goes_both_ways(&rt, alloc, &message, &[&[0x84], &TWO, bytes])?;
     }
     Ok(())
 }
 
+const PLAIN_REFUSALS: &[(Refusal, u8)] = &[
+    (Refusal::Malformed, 1),
+    (Refusal::NotConnected, 2),
+    (Refusal::AlreadyConnected, 3),
+    (Refusal::CircuitUnknown, 4),
+];
+
+const NUMBERED_REFUSALS: &[(Refusal, u8)] = &[
+    (Refusal::AppliedAhead { sent: 2 }, 5),
+    (Refusal::AckAhead { sent: 2 }, 6),
+    (Refusal::GotAhead { last: 2 }, 7),
+    (Refusal::BatchesGone { acked: 2 }, 8),
+    (Refusal::Early { next: 2 }, 9),
+    (Refusal::OutcomesFull { oldest: 2 }, 10),
+];
+
 #[test]
 fn refusals(rt: HostRuntime) -> Result<(), Fail> {
     let alloc = rt.alloc();
-    for (refusal, code) in [
-        (Refusal::Malformed, 1),
-        (Refusal::NotConnected, 2),
-        (Refusal::AlreadyConnected, 3),
-        (Refusal::CircuitUnknown, 4),
-    ] {
-        goes_both_ways(&rt, alloc, &Down::Refused(refusal), &[&[0x85, code]])?;
+    for (refusal, code) in PLAIN_REFUSALS {
+        goes_both_ways(&rt, alloc, &Down::Refused(*refusal), &[&[0x85, *code]])?;
     }
-    for (refusal, code) in [
-        (Refusal::AppliedAhead { sent: 2 }, 5),
-        (Refusal::AckAhead { sent: 2 }, 6),
-        (Refusal::GotAhead { last: 2 }, 7),
-        (Refusal::BatchesGone { acked: 2 }, 8),
-        (Refusal::Early { next: 2 }, 9),
-        (Refusal::OutcomesFull { oldest: 2 }, 10),
-    ] {
-        goes_both_ways(&rt, alloc, &Down::Refused(refusal), &[&[0x85, code], &TWO])?;
+    for (refusal, code) in NUMBERED_REFUSALS {
+        goes_both_ways(
+            &rt,
+            alloc,
+            &Down::Refused(*refusal),
+            &[&[0x85, *code], &TWO],
+        )?;
     }
     Ok(())
 }
+
+const FAULTS: &[(CircuitFault, u8)] = &[
+    (CircuitFault::DivideByZero, 1),
+    (CircuitFault::Overflow, 2),
+    (CircuitFault::NullUse, 3),
+    (CircuitFault::IndexOutOfRange, 4),
+    (CircuitFault::FuelSpent, 5),
+    (CircuitFault::CallDepth, 6),
+    (CircuitFault::ValueTooLarge, 7),
+    (CircuitFault::DuplicateKey, 8),
+    (CircuitFault::PageTooLarge, 9),
+    (CircuitFault::TooManyComponents, 10),
+    (CircuitFault::TooDeepTree, 11),
+    (CircuitFault::Memory, 12),
+    (CircuitFault::NumbersSpent, 13),
+];
 
 #[test]
 fn faults(rt: HostRuntime) -> Result<(), Fail> {
     let alloc = rt.alloc();
-    for (fault, code) in [
-        (CircuitFault::DivideByZero, 1),
-        (CircuitFault::Overflow, 2),
-        (CircuitFault::NullUse, 3),
-        (CircuitFault::IndexOutOfRange, 4),
-        (CircuitFault::FuelSpent, 5),
-        (CircuitFault::CallDepth, 6),
-        (CircuitFault::ValueTooLarge, 7),
-        (CircuitFault::DuplicateKey, 8),
-        (CircuitFault::PageTooLarge, 9),
-        (CircuitFault::TooManyComponents, 10),
-        (CircuitFault::TooDeepTree, 11),
-        (CircuitFault::Memory, 12),
-        (CircuitFault::NumbersSpent, 13),
-    ] {
-        goes_both_ways(&rt, alloc, &Down::Ended(fault), &[&[0x86, code]])?;
+    for (fault, code) in FAULTS {
+        goes_both_ways(&rt, alloc, &Down::Ended(*fault), &[&[0x86, *code]])?;
     }
     Ok(())
 }
 
+const NO_MESSAGES_UP: &[&[u8]] = &[
+    &[],
+    &[0],
+    &[1],
+    &[1, 2],
+    &[1, 1, 0],
+    &[4, 1, 0, 0, 0, 0, 0, 0, 0, 1, 0, 0, 0, 0, 0, 0],
+    &[5, 1],
+    &[0x81, 1],
+];
+
+const NO_MESSAGES_DOWN: &[&[u8]] = &[
+    &[],
+    &[0x80],
+    &[0x85, 0],
+    &[0x85, 5],
+    &[0x85, 1, 1, 0, 0, 0, 0, 0, 0, 0],
+    &[0x86, 14],
+    &[0x86, 13, 0],
+    &[0x83, 1, 0, 0, 0, 0, 0, 0, 0, 2, 0, 0, 0, 7],
+];
+
 #[test]
 fn bytes_of_no_message(rt: HostRuntime) -> Result<(), Fail> {
     let alloc = rt.alloc();
-    let malformed_up: [&[u8]; 8] = [
-        &[],
-        &[0],
-        &[1],
-        &[1, 2],
-        &[1, 1, 0],
-        &[4, 1, 0, 0, 0, 0, 0, 0, 0, 1, 0, 0, 0, 0, 0, 0],
-        &[5, 1],
-        &[0x81, 1],
-    ];
-    for bytes in malformed_up {
-        assert_eq!(rt;
-            decode_up(alloc, bytes).err(),
-            Some(HubFault::Malformed),
-            "{bytes:?}"
-        );
+    for bytes in NO_MESSAGES_UP {
+        let fault = decode_up(alloc, bytes).err();
+        assert_eq!(rt; fault, Some(HubFault::Malformed), "{bytes:?}");
     }
-    let malformed_down: [&[u8]; 8] = [
-        &[],
-        &[0x80],
-        &[0x85, 0],
-        &[0x85, 5],
-        &[0x85, 1, 1, 0, 0, 0, 0, 0, 0, 0],
-        &[0x86, 14],
-        &[0x86, 13, 0],
-        &[0x83, 1, 0, 0, 0, 0, 0, 0, 0, 2, 0, 0, 0, 7],
-    ];
-    for bytes in malformed_down {
-        assert_eq!(rt;
-            decode_down(alloc, bytes).err(),
-            Some(HubFault::Malformed),
-            "{bytes:?}"
-        );
+    for bytes in NO_MESSAGES_DOWN {
+        let fault = decode_down(alloc, bytes).err();
+        assert_eq!(rt; fault, Some(HubFault::Malformed), "{bytes:?}");
     }
     Ok(())
 }

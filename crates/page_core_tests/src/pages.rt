@@ -2,6 +2,7 @@
 use page_core::{Attributes, HandlerIds, Node, Page, is_void, print};
 use sqlite_items::Items;
 use std::alloc::Global;
+use std::process::Abort;
 use std::test::Fail;
 use text_core::{Oom, Txt};
 
@@ -68,65 +69,85 @@ fn printed(alloc: Global, nodes: Vec<Node>) -> Result<Txt, Oom> {
 fn prints_pages(rt: HostRuntime) -> Result<(), Fail> {
     let alloc = rt.alloc();
     let mixed = vec![in alloc; markup(alloc, "<i>")?, nested(alloc)?, clickable(alloc)?]?;
-    for (nodes, expected) in [
-        (Vec::new(alloc), ""),
-        (
-            mixed,
-            "<i><main><p class=\"a b\" id=\"x\">Hi</p><br></main><button>Go</button>",
-        ),
-    ] {
-        assert_eq!(rt; printed(alloc, nodes)?.as_str(), expected);
-    }
+    assert_eq!(rt;
+        printed(alloc, mixed)?.as_str(),
+        "<i><main><p class=\"a b\" id=\"x\">Hi</p><br></main><button>Go</button>"
+    );
+    assert_eq!(rt; printed(alloc, Vec::new(alloc))?.as_str(), "");
     Ok(())
 }
+
+fn is_escaped(
+    rt: &impl Abort,
+    alloc: Global,
+    given: &str,
+    in_text: &str,
+    in_value: &str,
+) -> Result<(), Fail> {
+    let words = vec![in alloc; text(alloc, given)?]?;
+    assert_eq!(rt; printed(alloc, words)?.as_str(), in_text);
+    let raw = vec![in alloc; markup(alloc, given)?]?;
+    assert_eq!(rt; printed(alloc, raw)?.as_str(), given);
+    let paragraph = element(alloc, "p", &[("title", given)], Vec::new(alloc))?;
+    let nodes = vec![in alloc; paragraph]?;
+    assert_eq!(rt; printed(alloc, nodes)?.as_str(), in_value);
+    Ok(())
+}
+
+// Characters, and how they stand in a text and in an attribute's value.
+const ESCAPES: &[(&str, &str, &str)] = &[
+    ("é", "é", "<p title=\"é\"></p>"),
+    ("1 & 2", "1 &amp; 2", "<p title=\"1 &amp; 2\"></p>"),
+    ("<b>", "&lt;b&gt;", "<p title=\"&lt;b&gt;\"></p>"),
+    ("\"'", "\"'", "<p title=\"&quot;'\"></p>"),
+    ("&amp;", "&amp;amp;", "<p title=\"&amp;amp;\"></p>"),
+];
 
 #[test]
 fn escapes_characters(rt: HostRuntime) -> Result<(), Fail> {
-    let alloc = rt.alloc();
-    for (given, in_text, in_value) in [
-        ("é", "é", "<p title=\"é\"></p>"),
-        ("1 & 2", "1 &amp; 2", "<p title=\"1 &amp; 2\"></p>"),
-        ("<b>", "&lt;b&gt;", "<p title=\"&lt;b&gt;\"></p>"),
-        ("\"'", "\"'", "<p title=\"&quot;'\"></p>"),
-        ("&amp;", "&amp;amp;", "<p title=\"&amp;amp;\"></p>"),
-    ] {
-        let words = vec![in alloc; text(alloc, given)?]?;
-        assert_eq!(rt; printed(alloc, words)?.as_str(), in_text);
-        let raw = vec![in alloc; markup(alloc, given)?]?;
-        assert_eq!(rt; printed(alloc, raw)?.as_str(), given);
-        let paragraph = element(alloc, "p", &[("title", given)], Vec::new(alloc))?;
-        assert_eq!(rt;
-            printed(alloc, vec![in alloc; paragraph]?)?.as_str(),
-            in_value
-        );
+    for (given, in_text, in_value) in ESCAPES {
+        is_escaped(&rt, rt.alloc(), given, in_text, in_value)?;
     }
     Ok(())
 }
 
+fn ends(
+    rt: &impl Abort,
+    alloc: Global,
+    name: &str,
+    void: bool,
+    expected: &str,
+) -> Result<(), Fail> {
+    assert_eq!(rt; is_void(&Txt::from_str(alloc, name)?), void, "at {name}");
+    let children = vec![in alloc; text(alloc, "x")?]?;
+    let nodes = vec![in alloc; element(alloc, name, &[], children)?]?;
+    assert_eq!(rt; printed(alloc, nodes)?.as_str(), expected);
+    Ok(())
+}
+
+// Names of elements, whether they are void, and how one with a text in it is printed.
+const ELEMENTS: &[(&str, bool, &str)] = &[
+    ("area", true, "<area>x"),
+    ("base", true, "<base>x"),
+    ("br", true, "<br>x"),
+    ("col", true, "<col>x"),
+    ("embed", true, "<embed>x"),
+    ("hr", true, "<hr>x"),
+    ("img", true, "<img>x"),
+    ("input", true, "<input>x"),
+    ("link", true, "<link>x"),
+    ("meta", true, "<meta>x"),
+    ("source", true, "<source>x"),
+    ("track", true, "<track>x"),
+    ("wbr", true, "<wbr>x"),
+    ("p", false, "<p>x</p>"),
+    ("BR", false, "<BR>x</BR>"),
+];
+
 #[test]
 fn ends_elements(rt: HostRuntime) -> Result<(), Fail> {
-    let alloc = rt.alloc();
-    for (name, void, expected) in [
-        ("area", true, "<area>x"),
-        ("base", true, "<base>x"),
-        ("br", true, "<br>x"),
-        ("col", true, "<col>x"),
-        ("embed", true, "<embed>x"),
-        ("hr", true, "<hr>x"),
-        ("img", true, "<img>x"),
-        ("input", true, "<input>x"),
-        ("link", true, "<link>x"),
-        ("meta", true, "<meta>x"),
-        ("source", true, "<source>x"),
-        ("track", true, "<track>x"),
-        ("wbr", true, "<wbr>x"),
-        ("p", false, "<p>x</p>"),
-        ("BR", false, "<BR>x</BR>"),
-    ] {
-        assert_eq!(rt; is_void(&Txt::from_str(alloc, name)?), void, "at {name}");
-        let children = vec![in alloc; text(alloc, "x")?]?;
-        let nodes = vec![in alloc; element(alloc, name, &[], children)?]?;
-        assert_eq!(rt; printed(alloc, nodes)?.as_str(), expected);
+    for (name, void, expected) in ELEMENTS {
+        ends(&rt, rt.alloc(), name, *void, expected)?;
     }
     Ok(())
 }
