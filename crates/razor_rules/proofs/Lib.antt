@@ -1,4 +1,4 @@
 pub mod TemplateLaws
 pub mod FirstLaws
-mod FactLaws
+pub mod FactLaws
 mod Examples
