@@ -12,6 +12,3 @@ mod laws;
 pub use file::read_file;
 pub use files::{FileFault, SourceFile, Unreadable, read_files};
 pub use laws::files_spell_one_list_of_components;
-
-#[cfg(test)]
-mod tests;

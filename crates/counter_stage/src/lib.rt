@@ -13,6 +13,3 @@ mod tree;
 pub use screen::CounterScreen;
 pub use stage::{CounterStage, CounterState};
 pub use tree::CounterTree;
-
-#[cfg(test)]
-mod tests;

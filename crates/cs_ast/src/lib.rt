@@ -26,6 +26,3 @@ pub use member::{Argument, Member, MemberKind};
 pub use operators::{AssignOp, BinaryOp, CastOp, StaticType, StepOp, UnaryOp};
 pub use scope::{Effect, NameKind, Named, Scope};
 pub use value::{Value, same, show, size};
-
-#[cfg(test)]
-mod tests;

@@ -16,6 +16,3 @@ pub use arena::Arena;
 pub use full::Full;
 pub use handle::Handle;
 pub use laws::{a_handle_is_given_once, a_removed_handle_stays_dead, a_write_changes_one_item};
-
-#[cfg(test)]
-mod tests;

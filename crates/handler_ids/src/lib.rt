@@ -17,6 +17,3 @@ pub use give_fault::GiveFault;
 pub use handler_value::HandlerValue;
 pub use handlers::Handlers;
 pub use laws::{an_id_is_what_its_history_says, nothing_leaves_the_history};
-
-#[cfg(test)]
-mod tests;

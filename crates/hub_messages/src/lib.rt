@@ -36,6 +36,3 @@ pub use screen::{At, PrintScreen, Screen, ScreenFault};
 pub use stage::{Acted, Made, Maker, Stage};
 pub use tree::Turns;
 pub use up::Up;
-
-#[cfg(test)]
-mod codec_tests;

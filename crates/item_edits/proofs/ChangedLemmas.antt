@@ -58,7 +58,7 @@ held-present (first ∷ attributes) q before zero attribute different is named =
 held-present (first ∷ attributes) q before (suc place) attribute different is named =
     held-present attributes q (cond (is_name q first.name) (says (wire_value first.value)) before) place attribute different.1 is named
 
-any-at : {X : Type 0} (p : X → Bool) (xs : List X) → list_any p xs ≡ true → (k : ℕ) × (x : X) × (slice_get xs k ≡ Some x) × (p x ≡ true)
+pub any-at : {X : Type 0} (p : X → Bool) (xs : List X) → list_any p xs ≡ true → (k : ℕ) × (x : X) × (slice_get xs k ≡ Some x) × (p x ≡ true)
 any-at p [] is = absurd (cc)
 any-at p (x ∷ xs) is = elim (told (p x)) [
   | inl hit ↦ (0, x, refl, hit)

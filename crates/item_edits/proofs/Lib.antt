@@ -14,3 +14,4 @@ pub mod RenderingLemmas
 pub mod SlotPairLemmas
 pub mod ChangeLemmas
 pub mod TurnsLemmas
+pub mod FittingLemmas

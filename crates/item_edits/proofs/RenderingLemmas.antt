@@ -91,7 +91,7 @@ region-size limit number key children few =
     let size = size-region number key children in
     each-size limit children (omega arith)
 
-each-clear : (items : List Item) → AllClear items → EachItem Clear items
+pub each-clear : (items : List Item) → AllClear items → EachItem Clear items
 each-clear items none_unclear = tt
 each-clear items (clear_more it rest clear each) = (clear, each-clear rest each)
 

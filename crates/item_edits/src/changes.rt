@@ -1,5 +1,5 @@
 // The edits of a list, and of what is within its pairs.
-ghost use Rattle.std.specs.Prelude.{◌≡◌, ◌<◌, ◌^◌, ◌++◌, length, map, slice_get, IfOk};
+ghost use Rattle.std.specs.Prelude.{◌≡◌, ◌<◌, ◌^◌, ◌++◌, map, IfOk};
 ghost use Rattle.edit_meaning.specs.Counted.{counts_in};
 ghost use Rattle.pairing_meaning.specs.Labels.{label_of};
 ghost use Rattle.pairing_meaning.specs.Slots.{slots_of};
@@ -13,7 +13,7 @@ use crate::arranged::arrange_slots;
 use crate::names::name_changes;
 use crate::wires::say_items;
 use frame_core::{Edit, Item};
-use item_pairing::{Slot, slots_in};
+use item_pairing::{Slot, place_at, slots_in};
 use sqlite_items::Items;
 use std::alloc::{AllocError, Global};
 use text_core::Txt;
@@ -67,14 +67,6 @@ fn with_children(
     edits.append(inner)?;
     edits.push(Edit::StepOut)?;
     Ok(edits)
-}
-
-/// The place of the old slot that the new one at a place pairs with.
-fn place_at(from: &[Option<u32>], place: usize) -> Option<u32>
-    requires { place < length from.now }
-    ensures { slice_get from.now place ≡ Some result }
-{
-    from[place]
 }
 
 /// The edits that change the node of a pair.

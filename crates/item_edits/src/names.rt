@@ -43,7 +43,7 @@ fn has_kept(olds: &[ItemAttribute], new: &ItemAttribute) -> bool
     false
 }
 
-fn has_name(news: &[ItemAttribute], old: &ItemAttribute) -> bool
+pub(crate) fn has_name(news: &[ItemAttribute], old: &ItemAttribute) -> bool
     ensures { result ≡ list_any (λ new. same_name new old.now) news.now }
 {
     for new in news {

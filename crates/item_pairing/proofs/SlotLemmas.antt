@@ -51,7 +51,7 @@ label-layer (Markup number text) = refl
 label-layer (Component number order made key parameters) = refl
 label-layer (Region number key children) = refl
 
-laid-label : (it : Item) → (laid_of it).label ≡ label_of it
+pub laid-label : (it : Item) → (laid_of it).label ≡ label_of it
 laid-label it = ap (λ (l : Laid). l.label) (fold_out-Item Laid laid_layer it) ∙ label-layer (out-Item it)
 
 -- the slots of an item by its layer

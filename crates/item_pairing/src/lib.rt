@@ -10,5 +10,5 @@ mod made;
 mod pairing;
 mod slots;
 
-pub use pairing::pair;
+pub use pairing::{pair, place_at};
 pub use slots::{Around, Slot, slots_in};

@@ -1,5 +1,5 @@
 // The k-th with the k-th of the same address.
-ghost use Rattle.std.specs.Prelude.{◌≡◌, ◌<◌, ◌^◌, ◌↔◌, IsTrue, [], length, map, IfOk};
+ghost use Rattle.std.specs.Prelude.{◌≡◌, ◌<◌, ◌^◌, ◌↔◌, IsTrue, [], length, map, slice_get, IfOk};
 ghost use Rattle.pairing_meaning.specs.Labels.{like};
 ghost use Rattle.pairing_meaning.specs.Slots.{same_address};
 ghost use Rattle.pairing_meaning.specs.Births.{TellsSlots};
@@ -86,4 +86,12 @@ pub fn pair(alloc: Global, olds: &[Slot], news: &[Slot]) -> Result<Items<Option<
     ensures { IfOk result (λ from. TellsSlots (map slot_of olds.now) (map slot_of news.now) from) }
 {
     find_all(alloc, olds, news)
+}
+
+/// What `pair` tells of the new slot at a place.
+pub fn place_at(from: &[Option<u32>], place: usize) -> Option<u32>
+    requires { place < length from.now }
+    ensures { slice_get from.now place ≡ Some result }
+{
+    from[place]
 }

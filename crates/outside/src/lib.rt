@@ -13,8 +13,6 @@ mod mem_files;
 mod mem_sink;
 mod sink;
 mod system;
-#[cfg(test)]
-mod tests;
 mod writing;
 
 pub use files::{FileRead, Files};

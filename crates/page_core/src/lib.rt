@@ -22,6 +22,3 @@ pub use node::{Node, Page};
 pub use path::at;
 pub use printing::print;
 pub use void::is_void;
-
-#[cfg(test)]
-mod tests;

@@ -14,11 +14,14 @@ use Rattle.frame_core.specs.declared.item.Item.TheVariants as item
 use Rattle.frame_core.specs.declared.item.Item.TheFolds.{fold-roll-Item}
 use Rattle.razor_ast.specs.declared.component.Component.{Component}
 use Rattle.razor_ast.specs.declared.node.TNode.{TNode-F, roll-TNode}
-use Rattle.page_meaning.specs.Drawing.{begun, begun_at}
+use Rattle.drawing_meaning.specs.Drawing.{begun, begun_at}
 use Rattle.page_meaning.specs.Fresh.{fresh_alone, page, shown_item, shown_layer, Shows, items_shown, then_all, nodes_of}
-use Rattle.page_meaning.specs.Items.{items_from}
-use Rattle.page_meaning.specs.Keys.{siblings}
-use Rattle.page_meaning.specs.Nodes.{element, text}
+use Rattle.drawing_meaning.specs.Acts.{in_order}
+use Rattle.drawing_meaning.specs.Attributes.{all_worn}
+use Rattle.drawing_meaning.specs.Keys.{siblings}
+use Rattle.drawing_meaning.specs.Nodes.{element, text}
+use Rattle.page_meaning.specs.Items.{items_from, component_acts}
+use Rattle.page_meaning.specs.Nodes.{element as resolved_element, text as resolved_text}
 use Rattle.page_meaning.proofs.PartLaws.{part_law}
 
 abbrev at : ℕ → Place
@@ -58,5 +61,5 @@ as_items =
     (element_shown 1 0 (codes "p") v.Null [] (item.Text 1 (codes "x") ∷ []) ∙ ap (λ (g : Shows). shown_layer 1 (Item-F.Element 0 (codes "p") v.Null [] (g ∷ []))) (text_shown 1 1 (codes "x")))
 
 shown : fresh_alone small ≡ page (roll-Node (node.Element 1 (codes "p") [] [] (roll-Node (node.Text 1 (codes "x")) ∷ [])) ∷ [])
-unfolding fresh_alone items_from siblings element text begun begun_at
+unfolding fresh_alone items_from component_acts resolved_element resolved_text element text in_order all_worn siblings begun begun_at
 shown = simp (part_law, p_bytes, x_bytes, item.outs-Text, item.outs-Element) (ap nodes_of as_items)

@@ -1,149 +1,80 @@
--- What the attributes of an element make.
-use Rattle.std.specs.Prelude.{ℕ, ◌+◌, drop, List, [], ◌∷◌, ◌++◌, true, false, Option, Some, None}
-use Rattle.cs_ast.specs.Texts.{text_of}
+-- What the attributes of an element come to.
+use Rattle.std.specs.Prelude.{ℕ, ◌+◌, drop, List, [], ◌∷◌, Some}
+use Rattle.cs_ast.specs.declared.code.BindKind.{BindKind}
+use Rattle.cs_ast.specs.declared.code.BindKind.TheVariants as bind
 use Rattle.cs_ast.specs.declared.code.Code.TheVariants as c
+use Rattle.cs_ast.specs.declared.cs_type.CsType.{CsType}
+use Rattle.cs_ast.specs.declared.cs_type.CsType.TheVariants as t
 use Rattle.cs_ast.specs.declared.expression.Expr.{Expr}
+use Rattle.cs_ast.specs.declared.identifier.Ident.{Ident}
 use Rattle.cs_ast.specs.declared.scope.Scope.{Scope}
-use Rattle.cs_ast.specs.declared.value.Value.{Value}
-use Rattle.cs_ast.specs.declared.value.Value.TheVariants as v
-use Rattle.cs_meaning.specs.Kinds.{string_of, callback_of}
-use Rattle.cs_meaning.specs.NewValues.{new_text}
+use Rattle.cs_rules.specs.declared.rule.Rule.TheVariants.{BadBind}
+use Rattle.cs_rules.specs.Judged.{known}
+use Rattle.drawing_meaning.specs.Texts.{Says, literal, shown_code}
+use Rattle.drawing_meaning.specs.Attributes as act
+use Rattle.drawing_meaning.specs.Attributes.{Dresses, wears, keyed_by}
 use Rattle.razor_ast.specs.declared.attribute.Attribute.{Attribute}
 use Rattle.razor_ast.specs.declared.attribute.AttributeKind.{AttributeKind}
 use Rattle.razor_ast.specs.declared.attribute.AttributeKind.TheVariants as ak
 use Rattle.razor_ast.specs.declared.attribute.ValuePart.{ValuePart}
 use Rattle.razor_ast.specs.declared.attribute.ValuePart.TheVariants as part
-use Rattle.razor_rules.specs.Elements.{own_field, bound_attribute, bound_event}
-use Rattle.frame_core.specs.declared.item_attribute.ItemAttribute.{ItemAttribute}
-use Rattle.frame_core.specs.declared.item_attribute.ItemValue.{ItemValue}
-use Rattle.frame_core.specs.declared.item_attribute.ItemValue.TheVariants as stands
-use Rattle.page_meaning.specs.Drawing.{Draws, done, run, pay, begun, bytes_of, ◌>>=◌}
-use Rattle.page_meaning.specs.Stages.{Stage, place_at, value, code_value, known}
+use Rattle.razor_rules.specs.Elements.{own_field, bound_attribute, bound_event, event_type}
+use Rattle.razor_rules.specs.Scopes.{Home}
 use Rattle.page_meaning.specs.Callbacks.{callback}
+use Rattle.page_meaning.specs.Placed.{signature, body}
+use Rattle.page_meaning.specs.Resolved.{Resolves, alone, judged, put, each, each_of, value_code, place_at, ◌>>=◌}
 
--- a new text of what a value shows
-abbrev pub shown : Value → Draws (List ℕ)
-shown x = do
-  y ← run (new_text (text_of x))
-  known (string_of y)
+-- how a bound field of a type reads a text
+abbrev pub bind_kind : CsType → BindKind
+bind_kind t.Int = bind.Int
+bind_kind t.Bool = bind.Bool
+bind_kind _ = bind.Text
 
-abbrev pub some_shown : Value → Draws (Option (List ℕ))
-some_shown x = do
-  text ← shown x
-  done (Some text)
+module _ (home : Home) (s : Scope) (element : List ℕ) (attributes : List Attribute) where
+  abbrev pub said_by : ValuePart → Resolves Says
+  said_by (part.Literal said) = alone (literal said)
+  said_by (part.Shown a) = do
+    code ← value_code s a
+    alone (shown_code code)
 
--- the text of an attribute that is one expression: none for `false` and null, empty for `true`
-abbrev pub attribute_text : Value → Draws (Option (List ℕ))
-attribute_text (v.Bool true) = done (Some [])
-attribute_text (v.Bool false) = done None
-attribute_text v.Null = done None
-attribute_text x = some_shown x
-
--- what a part of a value shows
-abbrev pub part_text : Stage → Scope → ValuePart → Draws (List ℕ)
-part_text stage s (part.Literal said) = done said
-part_text stage s (part.Shown a) = do
-  x ← value stage s a
-  known (text_of x)
-
--- what parts show, one behind another
-abbrev pub parts_text : Stage → Scope → List ValuePart → Draws (List ℕ)
-parts_text stage s [] = done []
-parts_text stage s (one ∷ others) = do
-  said ← part_text stage s one
-  more ← parts_text stage s others
-  done (said ++ more)
-
--- the text of an attribute: of one expression, or of parts that are joined to one new text
-abbrev pub mixed_text : Stage → Scope → List ValuePart → Draws (Option (List ℕ))
-mixed_text stage s [] = done (Some [])
-mixed_text stage s (part.Shown a ∷ []) = do
-  x ← value stage s a
-  attribute_text x
-mixed_text stage s parts = do
-  said ← parts_text stage s parts
-  some_shown (v.Text said)
-
-abbrev pub named : ℕ → List ℕ → ItemValue → ItemAttribute
-named number name value = record { number = number; name = name; value = value }
-
--- an attribute with such a text, if it has one
-abbrev pub with_text : ℕ → List ℕ → Option (List ℕ) → Draws (List ItemAttribute)
-with_text number name None = done []
-with_text number name (Some said) = do
-  here ← begun (bytes_of name + bytes_of said)
-  done (named number name (stands.Text said) ∷ [])
-
--- a handler: its receiver, its number and its captures; it has no id yet
-abbrev pub with_handler : ℕ → List ℕ → ℕ × ℕ × List Value → Draws (List ItemAttribute)
-with_handler number name it = do
-  here ← begun (bytes_of name)
-  done (named number name (stands.Handler (record { id = 0; who = it.0; place = it.1; captures = it.2 })) ∷ [])
-
--- the handler that a value is; none where it is null
-abbrev pub handler_of : ℕ → List ℕ → Value → Draws (List ItemAttribute)
-handler_of number name v.Null = done []
-handler_of number name x = do
-  it ← known (callback_of x)
-  with_handler number name it
-
--- attributes and handlers that were made, and the key
-pub record Dress : Type 0 where
-  pub worn : List ItemAttribute
-  pub key : Value
-
-abbrev pub dress : List ItemAttribute → Value → Dress
-dress worn key = record { worn = worn; key = key }
-
-module _ (stage : Stage) (s : Scope) (element : List ℕ) (attributes : List Attribute) where
-  -- a bound field: an attribute that shows it, and a handler that reads it from a text
-  unfoldable pub bound : ℕ → List ℕ → Draws (List ItemAttribute)
-  bound number name = do
-    paid ← pay
-    field ← known (own_field stage.home.members name)
-    x ← code_value stage (c.Field field.0)
-    said ← attribute_text x
-    first ← with_text number (bound_attribute element attributes (Some field.1)) said
-    paid_again ← pay
-    second ← with_handler (number + 1) (bound_event attributes) (stage.around.who, place_at stage (number + 1), [])
-    done (first ++ second)
-
-  unfoldable pub mixed : ℕ → List ℕ → List ValuePart → Draws (List ItemAttribute)
+  -- an attribute without a value, of one expression, or of parts that are joined to one new text
+  unfoldable pub mixed : ℕ → List ℕ → List ValuePart → Resolves (List Dresses)
+  mixed number name [] = alone (wears (act.empty number name) ∷ [])
+  mixed number name (part.Shown a ∷ []) = do
+    code ← value_code s a
+    alone (wears (act.whole number name code) ∷ [])
   mixed number name parts = do
-    paid ← pay
-    said ← mixed_text stage s parts
-    with_text number name said
+    said ← each said_by parts
+    alone (wears (act.mixed number name said) ∷ [])
 
-  unfoldable pub event : ℕ → List ℕ → Expr → Draws (List ItemAttribute)
+  unfoldable pub event : ℕ → List ℕ → Expr → Resolves (List Dresses)
   event number name a = do
-    paid ← pay
-    x ← callback stage s number a
-    handler_of number (drop 1 name) x
+    code ← callback home s number a (Some (event_type name))
+    alone (wears (act.event number (drop 1 name) code) ∷ [])
 
-  -- an attribute, behind those before it, whose key is handed on
-  abbrev pub attribute : AttributeKind → List ℕ → Value → Draws Dress
-  attribute (ak.Mixed number parts) name key = do
-    worn ← mixed number name parts
-    done (dress worn key)
-  attribute (ak.Key a) name key = do
-    x ← value stage s a
-    done (dress [] x)
-  attribute (ak.Event number a) name key = do
-    worn ← event number name a
-    done (dress worn key)
-  attribute (ak.Bind number field) name key = do
-    worn ← bound number field.name
-    done (dress worn key)
-  attribute _ name key = done (dress [] key)
+  -- a bound field: an attribute that shows it, and a handler that reads it from a text
+  abbrev pub bound_to : ℕ → ℕ × CsType → Resolves (List Dresses)
+  bound_to number field = do
+    placed ← put (place_at home (number + 1)) (body (signature home (t.Change ∷ []) t.Nothing) (c.Bind field.0 (bind_kind field.1)))
+    alone (wears (act.whole number (bound_attribute element attributes (Some field.1)) (c.Field field.0)) ∷ wears (act.own_handler (number + 1) (bound_event attributes) (place_at home (number + 1))) ∷ [])
 
-  -- attributes, one after another, from a key on
-  abbrev pub attributes_from : List Attribute → Value → Draws Dress
-  attributes_from [] key = done (dress [] key)
-  attributes_from (one ∷ others) key = do
-    first ← attribute one.kind one.name key
-    rest ← attributes_from others first.key
-    done (dress (first.worn ++ rest.worn) rest.key)
+  unfoldable pub bound : ℕ → Ident → Resolves (List Dresses)
+  bound number name = do
+    field ← judged (known BadBind name.place (own_field home.members name.name))
+    bound_to number field
 
-  -- all of them
-  abbrev pub dressed : Draws Dress
-  dressed = attributes_from attributes v.Null
+  unfoldable pub key : Expr → Resolves (List Dresses)
+  key a = do
+    code ← value_code s a
+    alone (keyed_by code ∷ [])
+
+  abbrev pub attribute : AttributeKind → List ℕ → Resolves (List Dresses)
+  attribute (ak.Mixed number parts) name = mixed number name parts
+  attribute (ak.Key a) name = key a
+  attribute (ak.Event number a) name = event number name a
+  attribute (ak.Bind number field) name = bound number field
+  attribute _ name = alone []
+
+  -- all of them, one after another
+  abbrev pub dressed : Resolves (List Dresses)
+  dressed = each_of (λ one. attribute one.kind one.name) attributes

@@ -10,16 +10,16 @@ use Rattle.page_core.specs.declared.node.Node.TheOpen as node
 use Rattle.page_core.specs.declared.node.Node.TheViews.{roll-Node}
 use Rattle.razor_ast.specs.declared.component.Component.{Component}
 use Rattle.razor_rules.specs.Programs.{home_of}
-use Rattle.page_meaning.specs.declared.fault.PageFault.{PageFault}
-use Rattle.page_meaning.specs.declared.fault.PageFault.TheVariants as fault
+use Rattle.drawing_meaning.specs.declared.fault.PageFault.{PageFault}
+use Rattle.drawing_meaning.specs.declared.fault.PageFault.TheVariants as fault
 use Rattle.frame_core.specs.declared.item.Item.{Item}
 use Rattle.frame_core.specs.declared.item.Item.TheOpen.{Item-F}
 use Rattle.frame_core.specs.declared.item.Item.TheFolds.{fold-Item}
 use Rattle.frame_core.specs.declared.item_attribute.ItemAttribute.{ItemAttribute}
 use Rattle.frame_core.specs.declared.item_attribute.ItemValue.{ItemValue}
 use Rattle.frame_core.specs.declared.item_attribute.ItemValue.TheVariants as stands
-use Rattle.page_meaning.specs.Drawing.{Drawn}
-use Rattle.page_meaning.specs.Drawing as drawing
+use Rattle.drawing_meaning.specs.Drawing.{Drawn}
+use Rattle.drawing_meaning.specs.Drawing as drawing
 use Rattle.page_meaning.specs.Initial.{initial_fields, fields_of, no_fields}
 use Rattle.page_meaning.specs.Items.{items}
 

@@ -1,12 +1,11 @@
-pub mod Drawing
-pub mod Keys
+pub mod Placed
+pub mod Resolved
 pub mod Captures
-pub mod Stages
+pub mod Bodies
 pub mod Callbacks
 pub mod Attributes
 pub mod Nodes
 pub mod Tags
-pub mod Placed
 pub mod Parts
 pub mod Items
 pub mod ProgramTypes

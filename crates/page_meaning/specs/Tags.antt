@@ -1,5 +1,7 @@
--- What the tag of a component makes.
-use Rattle.std.specs.Prelude.{ℕ, ◌+◌, codes, List, [], ◌∷◌, ◌++◌, if◌then◌else◌, Option, Some, None, option_map, bytes_eq}
+-- What the tag of a component comes to.
+use Rattle.std.specs.Prelude.{ℕ, ◌+◌, codes, List, [], ◌∷◌, if◌then◌else◌, Option, Some, None, option_map, bytes_eq}
+use Rattle.text_core.specs.declared.place.Place.{Place}
+use Rattle.cs_ast.specs.declared.code.Code.{Code}
 use Rattle.cs_ast.specs.declared.cs_type.CsType.{CsType, out-CsType}
 use Rattle.cs_ast.specs.declared.cs_type.CsType.TheVariants as t
 use Rattle.cs_ast.specs.declared.cs_type.CsType.TheOpen.{CsType-F}
@@ -8,14 +10,15 @@ use Rattle.cs_ast.specs.declared.member.Member.{Member}
 use Rattle.cs_ast.specs.declared.member.MemberKind.{MemberKind}
 use Rattle.cs_ast.specs.declared.member.MemberKind.TheVariants.{Parameter}
 use Rattle.cs_ast.specs.declared.scope.Scope.{Scope}
-use Rattle.cs_ast.specs.declared.scope.Named.{Named}
-use Rattle.cs_ast.specs.declared.value.Value.{Value}
-use Rattle.cs_ast.specs.declared.value.Value.TheVariants as v
 use Rattle.cs_rules.specs.declared.checked.ExprType.{ExprType}
 use Rattle.cs_rules.specs.declared.checked.ExprType.TheVariants.{Of}
-use Rattle.cs_rules.specs.Judged.{fine, breaks}
+use Rattle.cs_rules.specs.declared.rule.Rule.TheVariants.{UnknownParameter}
+use Rattle.cs_rules.specs.Judged.{fine, breaks, known, mismatch}
 use Rattle.cs_rules.specs.Trees.{value_in}
 use Rattle.cs_rules.specs.Written.{type_of}
+use Rattle.drawing_meaning.specs.Tags.{Gives, given_text, given_value, given_key}
+use Rattle.frame_core.specs.declared.made.Made.{Made}
+use Rattle.frame_core.specs.declared.made.Made.TheVariants as made
 use Rattle.razor_ast.specs.declared.attribute.Attribute.{Attribute}
 use Rattle.razor_ast.specs.declared.attribute.AttributeKind.{AttributeKind}
 use Rattle.razor_ast.specs.declared.attribute.AttributeKind.TheVariants as ak
@@ -23,14 +26,9 @@ use Rattle.razor_ast.specs.declared.attribute.Given.{Given}
 use Rattle.razor_ast.specs.declared.attribute.Given.TheVariants as given
 use Rattle.razor_ast.specs.declared.component.Component.{Component}
 use Rattle.razor_rules.specs.Parameters.{is_text, component_named}
-use Rattle.frame_core.specs.declared.item.Item.TheVariants as item
-use Rattle.frame_core.specs.declared.made.Made.{Made}
-use Rattle.frame_core.specs.declared.made.Made.TheVariants as made
-use Rattle.frame_core.specs.declared.item.ItemParameter.{ItemParameter}
-use Rattle.page_meaning.specs.Captures.{values_of}
+use Rattle.razor_rules.specs.Scopes.{Home}
 use Rattle.page_meaning.specs.Callbacks.{callback}
-use Rattle.page_meaning.specs.Drawing.{Draws, stuck, done, pay, begun, next_component, ◌>>=◌}
-use Rattle.page_meaning.specs.Stages.{Stage, Output, output, place_at, value, known}
+use Rattle.page_meaning.specs.Resolved.{Resolves, alone, judged, each_of, value_code, ◌>>=◌}
 
 abbrev pub parameter_or : List ℕ → MemberKind → ℕ → (ℕ → Option (ℕ × CsType)) → Option (ℕ × CsType)
 parameter_or name (Parameter cascading source cs_type other initial) number further = if bytes_eq other.name name then Some (number, type_of cs_type) else further (number + 1)
@@ -51,76 +49,45 @@ pub record Target : Type 0 where
   pub made : Made
   pub parameter : List ℕ → Option (ℕ × CsType)
 
-abbrev pub expression_value : Stage → Scope → ℕ → CsType-F CsType → Expr → Draws Value
-expression_value stage s number (CsType-F.Callback argument) a = callback stage s number a
-expression_value stage s number _ a = value stage s a
+abbrev pub expression_code : Home → Scope → ℕ → CsType-F CsType → Expr → Resolves Code
+expression_code home s number (CsType-F.Callback argument) a = callback home s number a argument
+expression_code home s number _ a = value_code s a
 
--- an expression for a parameter of a type
-abbrev pub supplied_value : Stage → Scope → ℕ → CsType → Expr → Draws Value
-supplied_value stage s number cs_type a = expression_value stage s number (out-CsType cs_type) a
+-- the code of an expression for a parameter of a type
+unfoldable pub supplied_code : Home → Scope → ℕ → CsType → Expr → Resolves Code
+supplied_code home s number cs_type a = expression_code home s number (out-CsType cs_type) a
 
-abbrev pub if_said : Option Expr → (Expr → Draws Value) → Draws Value
-if_said None next d = stuck
-if_said (Some a) next d = next a d
+module _ (home : Home) (s : Scope) (target : Target) where
+  abbrev pub expression_gift : ℕ → ℕ × CsType → Expr → Resolves (List Gives)
+  expression_gift number it a = do
+    code ← supplied_code home s number it.1 a
+    alone (given_value it.0 code ∷ [])
 
--- what a parameter of a type is given by an attribute: its text where the type is a text's, else its expression
-abbrev pub given_value : Stage → Scope → ℕ → CsType → Given → Draws Value
-given_value stage s number cs_type given.Nothing = done (v.Text [])
-given_value stage s number cs_type (given.Text place said a) = if is_text cs_type then done (v.Text said) else if_said a (supplied_value stage s number cs_type)
-given_value stage s number cs_type (given.Value a) = supplied_value stage s number cs_type a
+  abbrev pub if_said : ℕ → ℕ × CsType → Place → Option Expr → Resolves (List Gives)
+  if_said number it place None = judged (mismatch place)
+  if_said number it place (Some a) = expression_gift number it a
 
-abbrev pub supplied : ℕ → Value → ItemParameter
-supplied place x = record { place = place; value = x }
+  -- what a parameter of a type is given by an attribute: its text where the type is a text's, else its expression
+  abbrev pub given_gift : ℕ → ℕ × CsType → Given → Resolves (List Gives)
+  given_gift number it given.Nothing = alone (given_text it.0 [] ∷ [])
+  given_gift number it (given.Text place said a) = if is_text it.1 then alone (given_text it.0 said ∷ []) else if_said number it place a
+  given_gift number it (given.Value a) = expression_gift number it a
 
--- what a tag gives, and its key
-pub record Gifts : Type 0 where
-  pub supplied : List ItemParameter
-  pub key : Value
+  unfoldable pub parameter_gift : ℕ → Given → Place → List ℕ → Resolves (List Gives)
+  parameter_gift number given place name = do
+    it ← judged (known UnknownParameter place (target.parameter name))
+    given_gift number it given
 
-abbrev pub gifts : List ItemParameter → Value → Gifts
-gifts supplied key = record { supplied = supplied; key = key }
+  abbrev pub attribute_gift : AttributeKind → Place → List ℕ → Resolves (List Gives)
+  attribute_gift (ak.Parameter number given) place name = parameter_gift number given place name
+  attribute_gift (ak.Key a) place name = do
+    code ← value_code s a
+    alone (given_key code ∷ [])
+  attribute_gift _ place name = alone []
 
-module _ (stage : Stage) (s : Scope) (target : Target) where
-  abbrev pub parameter_gift : ℕ → List ℕ → Given → Draws (List ItemParameter)
-  parameter_gift number name given = do
-    paid ← pay
-    it ← known (target.parameter name)
-    x ← given_value stage s number it.1 given
-    done (supplied it.0 x ∷ [])
-
-  abbrev pub attribute_gift : AttributeKind → List ℕ → Value → Draws Gifts
-  attribute_gift (ak.Parameter number given) name key = do
-    it ← parameter_gift number name given
-    done (gifts it key)
-  attribute_gift (ak.Key a) name key = do
-    x ← value stage s a
-    done (gifts [] x)
-  attribute_gift _ name key = done (gifts [] key)
-
-  -- attributes, one after another, from a key on
-  abbrev pub attribute_gifts : List Attribute → Value → Draws Gifts
-  attribute_gifts [] key = done (gifts [] key)
-  attribute_gifts (one ∷ others) key = do
-    first ← attribute_gift one.kind one.name key
-    rest ← attribute_gifts others first.key
-    done (gifts (first.supplied ++ rest.supplied) rest.key)
-
-  -- a fragment of the present instance for a parameter, over the values of these locals
-  abbrev pub fragment_gift : List ℕ → ℕ → List Named → Draws ItemParameter
-  fragment_gift name number locals = do
-    it ← known (target.parameter name)
-    captures ← values_of locals
-    done (supplied it.0 (v.Fragment stage.around.who (place_at stage number) captures))
-
--- the component item of a tag, with what its attributes and its content give
-abbrev pub component : ℕ → Stage → Scope → Target → List Attribute → Draws (List ItemParameter) → Draws Output
-component number stage s target attributes content = do
-  paid ← pay
-  here ← begun 0
-  order ← next_component
-  first ← attribute_gifts stage s target attributes v.Null
-  more ← content
-  done (output (item.Component number order target.made first.key (first.supplied ++ more) ∷ []))
+  -- what attributes give, one after another
+  abbrev pub attribute_gifts : List Attribute → Resolves (List Gives)
+  attribute_gifts attributes = each_of (λ one. attribute_gift one.kind one.place one.name) attributes
 
 -- the places of the parameters of the built-in provider, whose value is of a type
 abbrev pub provider_parameter : CsType → List ℕ → Option (ℕ × CsType)

@@ -23,6 +23,3 @@ pub use laws::what_a_file_spells_can_run;
 pub use page_tree::PageTree;
 pub use screen::PlainScreen;
 pub use stage::PlainStage;
-
-#[cfg(test)]
-mod tests;

@@ -23,8 +23,3 @@ pub use text::Txt;
 pub use text_bytes::{put_text, take_text};
 pub use wire_fault::WireFault;
 pub use words::{put_u32, put_u64, take_u32, take_u64};
-
-#[cfg(test)]
-mod byte_tests;
-#[cfg(test)]
-mod tests;

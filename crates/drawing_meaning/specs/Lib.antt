@@ -1,0 +1,10 @@
+pub mod Drawing
+pub mod Stages
+pub mod Keys
+pub mod Acts
+pub mod Texts
+pub mod Attributes
+pub mod Nodes
+pub mod Turns
+pub mod Tags
+pub mod Shows

@@ -1,0 +1,7 @@
+//! Tests of the bytes of messages.
+//!
+//! The crate has no function of its own and promises nothing. What the tests expect was written by hand.
+#![tactic(auto)]
+
+#[cfg(test)]
+mod codec;

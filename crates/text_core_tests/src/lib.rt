@@ -1,0 +1,9 @@
+//! Tests of texts, places, numbers and bytes.
+//!
+//! The crate has no function of its own and promises nothing. What the tests expect was written by hand.
+#![tactic(auto)]
+
+#[cfg(test)]
+mod bytes;
+#[cfg(test)]
+mod texts;
