@@ -12,7 +12,8 @@ use Rattle.razor_ast.specs.declared.node.TNode.{TNode, TNode-F, roll-TNode}
 use Rattle.razor_rules.specs.Findings.{broken, comes_before, number_of}
 use Rattle.cs_rules.specs.Expressions.{name_read}
 use Rattle.cs_forbidden.specs.Trees.{uses_of_form}
-use Rattle.razor_rules.specs.Grounds.{Ground, top, forbidden_at}
+use Rattle.razor_rules.specs.declared.ground.Ground.{Ground}
+use Rattle.razor_rules.specs.Grounds.{top}
 use Rattle.cs_rules.specs.Judged.{fine, breaks, mismatch, ◌>>=◌}
 use Rattle.cs_rules.specs.Trees.{Uses}
 use Rattle.razor_rules.specs.Values.{is_content}
@@ -66,7 +67,7 @@ shows_nothing : content ground (named 5 (codes "m")) ≡ breaks UnknownName (at 
 unfolding content uses_of_form value_of_form name_read meant_by meant
 shows_nothing =
     ap (λ (u : Uses). u.value ground.scope >>= (λ x. if is_content x.expr_type then fine tt else mismatch x.place))
-    (uses_law (forbidden_at ground) (named 5 (codes "m")) ∙ form_law (forbidden_at ground) (ExprKind-F.Name (codes "m")) (at 5))
+    (uses_law ground.forbidden (named 5 (codes "m")) ∙ form_law ground.forbidden (ExprKind-F.Name (codes "m")) (at 5))
 
 unknown_name : first_broken (unknown ∷ []) (facts_of ([] ∷ [])) ≡ Some (record { file = 0; first = broken UnknownName (at 5) })
 unfolding is_component_name file_rules members_rules element_rules comes_before number_of

@@ -5,7 +5,7 @@ use Rattle.std.proofs.lemmas.Bool.{ltb-true, eqb-true, lt-ltb, eq-eqb, or_cases,
 use Rattle.std.specs.List.{All}
 use Rattle.std.proofs.lemmas.List.Elements.{All-weaker, All-cons, All-nil, Contains-append_left, Contains-append_right, Contains-push}
 use Rattle.razor_rules.specs.declared.finding.Broken.{Broken}
-use Rattle.razor_rules.specs.Findings.{comes_before, number_of, the_first, first_of, merged, IsFirst}
+use Rattle.razor_rules.specs.Findings.{comes_before, number_of, the_first, first_of, merged, also, IsFirst}
 
 -- one triple of numbers before another
 abbrev below : ℕ → ℕ → ℕ → ℕ → ℕ → ℕ → Bool
@@ -179,3 +179,17 @@ merged_on (Some x) two three = ap Some (in_turn x two three)
 -- what is found before, and in two lists one behind the other
 pub merged_append : (before : Option Broken) (xs ys : List Broken) → merged before (first_of (xs ++ ys)) ≡ merged (merged before (first_of xs)) (first_of ys)
 merged_append before xs ys = ap (merged before) (first_append xs ys) ∙ merged_on before (first_of xs) (first_of ys)
+
+merged_none : (before : Option Broken) → merged before None ≡ before
+merged_none None = refl
+merged_none (Some x) = refl
+
+-- nothing was found
+pub also_nothing : (before : Option Broken) → also before [] ≡ before
+unfolding also
+also_nothing before = merged_none before
+
+-- one after the other
+pub also_append : (before : Option Broken) (xs ys : List Broken) → also before (xs ++ ys) ≡ also (also before xs) ys
+unfolding also
+also_append before xs ys = merged_append before xs ys

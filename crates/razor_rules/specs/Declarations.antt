@@ -11,7 +11,6 @@ use Rattle.cs_ast.specs.declared.member.Argument.{Argument}
 use Rattle.cs_ast.specs.declared.member.Member.{Member}
 use Rattle.cs_ast.specs.declared.member.MemberKind.{MemberKind}
 use Rattle.cs_ast.specs.declared.member.MemberKind.TheVariants.{Field, Parameter, Method, Getter, RecordDef}
-use Rattle.cs_ast.specs.declared.scope.Effect.{Effect}
 use Rattle.cs_rules.specs.declared.rule.Rule.TheVariants.{DuplicateName, BadLifecycle, MissingReturn, RecursiveRecord}
 use Rattle.cs_rules.specs.Judged.{◌>>=◌}
 use Rattle.cs_rules.specs.Types.{fitting}
@@ -40,8 +39,8 @@ abbrev pub is_empty : List Argument → Bool
 is_empty [] = true
 is_empty (one ∷ others) = false
 
--- the effects of methods by their numbers, and whether the record of a name contains itself, are handed in
-module _ (home : Home) (effects : List (ℕ × Effect)) (circular : List ℕ → Bool) where
+-- the numbers of the bodies that invoke a callback, and whether the record of a name contains itself, are handed in
+module _ (home : Home) (invoking : List ℕ) (circular : List ℕ → Bool) where
   -- the initial value of a field or a parameter of a type
   abbrev pub initial_rules : Option Expr → CsType → List Broken
   initial_rules None cs_type = []
@@ -53,7 +52,7 @@ module _ (home : Home) (effects : List (ℕ × Effect)) (circular : List ℕ →
 
   -- what is forbidden in the body of a method of this name
   abbrev pub forbidden_in : List ℕ → Forbidden
-  forbidden_in name = if is_lifecycle name then in_lifecycle effects else nothing
+  forbidden_in name = if is_lifecycle name then in_lifecycle invoking else nothing
 
   -- the body of a method
   unfoldable pub body_rules : List ℕ → Option TypeExpr → List Argument → Body → List Broken

@@ -18,7 +18,7 @@ use Rattle.razor_rules.specs.declared.finding.Broken.{Broken}
 use Rattle.razor_rules.specs.Findings.{found, broken_unless}
 use Rattle.razor_rules.specs.Names.{name_at, repeated}
 use Rattle.razor_rules.specs.Scopes.{Home}
-use Rattle.razor_rules.specs.Grounds.{Ground}
+use Rattle.razor_rules.specs.declared.ground.Ground.{Ground}
 use Rattle.razor_rules.specs.Values.{shown_value, key, callback}
 
 -- the type of the argument of an event

@@ -76,3 +76,7 @@ IsFirst xs (Some x) = Contains xs x × All (λ y. comes_before y x ≡ false) xs
 abbrev pub merged : Option Broken → Option Broken → Option Broken
 merged None other = other
 merged (Some x) other = Some (the_first x other)
+
+-- the first of what was found before and of these
+unfoldable pub also : Option Broken → List Broken → Option Broken
+also before others = merged before (first_of others)

@@ -1,32 +1,24 @@
 -- What code in a template is judged by.
-use Rattle.std.specs.Prelude.{ℕ, Bool, false, List, [], ◌∷◌, ◌++◌, length, take, if◌then◌else◌, Option, Some, None}
+use Rattle.std.specs.Prelude.{ℕ, Bool, false, List, [], ◌∷◌, ◌++◌, if◌then◌else◌, Option, Some, None}
 use Rattle.cs_ast.specs.declared.cs_type.CsType.{CsType}
 use Rattle.cs_ast.specs.declared.identifier.Ident.{Ident}
-use Rattle.cs_ast.specs.declared.scope.Effect.{Effect}
 use Rattle.cs_ast.specs.declared.scope.Scope.{Scope}
 use Rattle.cs_rules.specs.Judged.{Judged, fine, ◌>>=◌}
 use Rattle.cs_rules.specs.Names.{is_new, with_local}
 use Rattle.cs_forbidden.specs.declared.forbidden.Mark.{Mark}
 use Rattle.cs_forbidden.specs.declared.forbidden.Mark.TheVariants.{Steady, Changed}
 use Rattle.cs_forbidden.specs.declared.forbidden.Forbidden.{Forbidden}
+use Rattle.razor_rules.specs.declared.ground.Ground.{Ground}
 use Rattle.razor_rules.specs.Restrictions.{in_lambda, in_template}
 use Rattle.razor_rules.specs.Scopes.{Home, member_scope}
 
--- at a place of a template: the scope, with a mark for each local in it; how many of these are outside of the innermost fragment round the place; the effects of methods by the numbers of their bodies; and whether a `break` there is one of a `switch`
-pub record Ground : Type 0 where
-  pub scope : Scope
-  pub marks : List Mark
-  pub outside : ℕ
-  pub effects : List (ℕ × Effect)
-  pub in_switch : Bool
+-- at the top of a template, where these bodies change a field or invoke a callback
+abbrev pub top : Home → List ℕ → Ground
+top home impure = record { scope = member_scope home; marks = []; forbidden = in_template [] impure; in_switch = false }
 
--- at the top of a template
-abbrev pub top : Home → List (ℕ × Effect) → Ground
-top home effects = record { scope = member_scope home; marks = []; outside = 0; effects = effects; in_switch = false }
-
--- in a fragment
+-- in a fragment: all locals are outside of it
 abbrev pub in_fragment : Ground → Ground
-in_fragment g = record g { outside = length g.marks; in_switch = false }
+in_fragment g = record g { forbidden = record g.forbidden { outside = g.marks }; in_switch = false }
 
 -- in the body of a loop, or in a section of a `switch`
 abbrev pub in_loop : Ground → Ground
@@ -46,10 +38,6 @@ with_new None name assigned g = fine g
 with_new (Some cs_type) name assigned g = do
   new ← is_new g.scope name
   fine (behind_local g (with_local g.scope name.name cs_type) (mark_of assigned))
-
--- what is forbidden in code that is run when the template is
-abbrev pub forbidden_at : Ground → Forbidden
-forbidden_at g = in_template (take g.outside g.marks) g.effects
 
 -- what is forbidden in a lambda, which is run later
 abbrev pub forbidden_in_lambda : Ground → Forbidden

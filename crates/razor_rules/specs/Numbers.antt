@@ -7,7 +7,8 @@ use Rattle.razor_ast.specs.declared.attribute.AttributeKind.TheVariants as ak
 use Rattle.razor_ast.specs.declared.component.Component.{Component}
 use Rattle.razor_ast.specs.declared.node.TNode.{TNode}
 use Rattle.razor_ast.specs.declared.node.TNode.TheOpen.{TNode-F}
-use Rattle.razor_ast.specs.declared.node.TNode.TheFolds.{fold-TNode}
+use Rattle.razor_ast.specs.declared.node.TNode.TheFolds.{fold-TNode, fold-TSection}
+use Rattle.razor_ast.specs.declared.node.TSection.{TSection}
 
 -- how many numbers an attribute has
 unfoldable pub numbers_of_kind : AttributeKind → ℕ
@@ -44,6 +45,10 @@ numbers_of_parts (TNode-F.While number place condition body) = 1 + body
 
 unfoldable pub numbers_of : TNode → ℕ
 numbers_of = fold-TNode ℕ ℕ numbers_of_parts (λ section. sum section.items)
+
+-- how many numbers a section of a `switch` has
+unfoldable pub numbers_of_section : TSection → ℕ
+numbers_of_section = fold-TSection ℕ ℕ numbers_of_parts (λ section. sum section.items)
 
 -- how many bodies and templates a component has numbers for
 abbrev pub span : Component → ℕ

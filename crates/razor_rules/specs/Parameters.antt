@@ -20,7 +20,7 @@ use Rattle.razor_rules.specs.declared.finding.Broken.{Broken}
 use Rattle.razor_rules.specs.Findings.{broken, found}
 use Rattle.razor_rules.specs.Scopes.{Home}
 use Rattle.razor_rules.specs.WrittenTypes.{unknown_parameter}
-use Rattle.razor_rules.specs.Grounds.{Ground}
+use Rattle.razor_rules.specs.declared.ground.Ground.{Ground}
 use Rattle.razor_rules.specs.Values.{value, supplied, cascading}
 
 -- a parameter: its name, its type, and whether that is one

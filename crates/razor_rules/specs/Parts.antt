@@ -9,7 +9,8 @@ use Rattle.cs_effects.specs.declared.deed.Deed.{Deed}
 use Rattle.cs_rules.specs.declared.checked.ExprType.{ExprType}
 use Rattle.cs_rules.specs.Judged.{Judged, fine, breaks}
 use Rattle.razor_rules.specs.declared.finding.Broken.{Broken}
-use Rattle.razor_rules.specs.Grounds.{Ground, behind_local, mark_of}
+use Rattle.razor_rules.specs.declared.ground.Ground.{Ground}
+use Rattle.razor_rules.specs.Grounds.{behind_local, mark_of}
 use Rattle.razor_rules.specs.TemplateDeeds.{changing}
 
 -- a part of a template: where it stands; whether it is a text of white space alone; the name of the component's tag that it is, if it is one; the local that it declares for what follows, if it does; what it does besides computing; the rules that it breaks, and the scope behind it where it breaks none; and the rules that it breaks as the tag of a fragment with such an argument, with a name for that, if one is given

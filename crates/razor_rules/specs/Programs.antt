@@ -15,6 +15,7 @@ use Rattle.razor_rules.specs.Findings.{broken_unless, first_of}
 use Rattle.razor_rules.specs.Names.{is_among}
 use Rattle.razor_rules.specs.Numbers.{first_number}
 use Rattle.razor_rules.specs.Records.{IsCircular}
+use Rattle.razor_rules.specs.Restrictions.{impure_in, invoking_in}
 use Rattle.razor_rules.specs.Scopes.{Home, records_of, effects_in}
 use Rattle.razor_rules.specs.Grounds.{top}
 use Rattle.razor_rules.specs.Declarations.{members_rules}
@@ -51,8 +52,8 @@ pub record Facts : Type 0 where
 unfoldable pub file_rules : List Component → Home → Component → List (ℕ × Effect) → (List ℕ → Bool) → List Broken
 file_rules earlier home component effects circular =
     name_rules earlier component
-    ++ members_rules home effects circular (records_of earlier)
-    ++ in_order (map (part_of home) component.nodes) (top home effects)
+    ++ members_rules home (invoking_in effects) circular (records_of earlier)
+    ++ in_order (map (part_of home) component.nodes) (top home (impure_in effects))
 
 -- the rules that the file at a position breaks
 abbrev pub of_file : List Component → (List ℕ → Bool) → ℕ → Component → List Effect → List Broken

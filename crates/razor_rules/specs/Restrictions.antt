@@ -13,11 +13,18 @@ with_effect test effects = map (λ one. one.0) (filter (λ one. test one.1) effe
 abbrev pub in_lambda : List Mark → Forbidden
 in_lambda outside = record { outside = outside; changes = None; invokes = None; bodies = [] }
 
--- in a template, or in a fragment with locals outside it: these, and what changes a field or invokes a callback, itself or through methods of these effects
-abbrev pub in_template : List Mark → List (ℕ × Effect) → Forbidden
-in_template outside effects =
-    record { outside = outside; changes = Some ImpureTemplate; invokes = Some ImpureTemplate; bodies = with_effect (λ one. one.changes || one.invokes) effects }
+-- the numbers of the bodies that change a field or invoke a callback, themselves or through others, by their effects
+abbrev pub impure_in : List (ℕ × Effect) → List ℕ
+impure_in effects = with_effect (λ one. one.changes || one.invokes) effects
 
--- in a lifecycle method: what invokes a callback, itself or through methods of these effects
-abbrev pub in_lifecycle : List (ℕ × Effect) → Forbidden
-in_lifecycle effects = record { outside = []; changes = None; invokes = Some CallbackInLifecycle; bodies = with_effect (λ one. one.invokes) effects }
+-- of those that invoke a callback
+abbrev pub invoking_in : List (ℕ × Effect) → List ℕ
+invoking_in effects = with_effect (λ one. one.invokes) effects
+
+-- in a template, or in a fragment with locals outside it: these, and what changes a field or invokes a callback, itself or through these bodies
+abbrev pub in_template : List Mark → List ℕ → Forbidden
+in_template outside impure = record { outside = outside; changes = Some ImpureTemplate; invokes = Some ImpureTemplate; bodies = impure }
+
+-- in a lifecycle method: what invokes a callback, itself or through these bodies
+abbrev pub in_lifecycle : List ℕ → Forbidden
+in_lifecycle invoking = record { outside = []; changes = None; invokes = Some CallbackInLifecycle; bodies = invoking }

@@ -12,7 +12,8 @@ use Rattle.razor_ast.specs.declared.attribute.AttributeKind.TheVariants as ak
 use Rattle.razor_rules.specs.declared.finding.Broken.{Broken}
 use Rattle.razor_rules.specs.Findings.{broken, found, found_then}
 use Rattle.razor_rules.specs.Names.{name_at, repeated}
-use Rattle.razor_rules.specs.Grounds.{Ground, in_fragment, with_new}
+use Rattle.razor_rules.specs.declared.ground.Ground.{Ground}
+use Rattle.razor_rules.specs.Grounds.{in_fragment, with_new}
 use Rattle.razor_rules.specs.Values.{key}
 use Rattle.razor_rules.specs.TemplateDeeds.{changing}
 use Rattle.razor_rules.specs.Parameters.{Tagged, fragment_taken, parameter_rules, needed_rules}

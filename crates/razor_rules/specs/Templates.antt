@@ -21,13 +21,15 @@ use Rattle.cs_rules.specs.Statements.{condition, decides, constants}
 use Rattle.razor_ast.specs.Literals.{is_white}
 use Rattle.razor_ast.specs.declared.node.TNode.{TNode}
 use Rattle.razor_ast.specs.declared.node.TNode.TheOpen.{TNode-F}
-use Rattle.razor_ast.specs.declared.node.TNode.TheFolds.{fold-TNode}
+use Rattle.razor_ast.specs.declared.node.TNode.TheFolds.{fold-TNode, fold-TSection}
+use Rattle.razor_ast.specs.declared.node.TSection.{TSection}
 use Rattle.cs_forbidden.specs.declared.forbidden.Mark.TheVariants.{OfFor}
 use Rattle.razor_rules.specs.declared.finding.Broken.{Broken}
 use Rattle.razor_rules.specs.Findings.{broken, found, found_then}
 use Rattle.cs_forbidden.specs.Trees.{statement, uses}
 use Rattle.razor_rules.specs.Scopes.{Home}
-use Rattle.razor_rules.specs.Grounds.{Ground, in_loop, behind_local, mark_of, forbidden_at}
+use Rattle.razor_rules.specs.declared.ground.Ground.{Ground}
+use Rattle.razor_rules.specs.Grounds.{in_loop, behind_local, mark_of}
 use Rattle.razor_rules.specs.Values.{value, content}
 use Rattle.razor_rules.specs.TemplateDeeds.{changing, if_any, expression_does, statement_does, attributes_do}
 use Rattle.razor_rules.specs.Elements.{element_rules}
@@ -58,14 +60,14 @@ behind_start (Some name) g s = behind_local g s OfFor
 
 -- a test
 abbrev pub test_rules : Expr → Ground → List Broken
-test_rules a g = found (condition (uses (forbidden_at g) a).value g.scope)
+test_rules a g = found (condition (uses g.forbidden a).value g.scope)
 
 -- a statement without statements in it; `break` stands in a `switch` only, and the other jumps nowhere
 abbrev pub statement_level : Level → Stmt → Ground → List Broken
 statement_level StmtKind-F.Break one g = if g.in_switch then [] else broken LoopJump one.place ∷ []
 statement_level StmtKind-F.Continue one g = broken LoopJump one.place ∷ []
 statement_level (StmtKind-F.Return value) one g = broken LoopJump one.place ∷ []
-statement_level _ one g = found (statement (forbidden_at g) one g.scope)
+statement_level _ one g = found (statement g.forbidden one g.scope)
 
 abbrev pub statement_part : Stmt → Part
 statement_part one =
@@ -76,14 +78,14 @@ statement_part one =
       declares = declared_by one;
       does = λ deed. statement_does deed one;
       rules = λ g. statement_level (out-StmtKind one.kind) one g;
-      behind = λ g. statement (forbidden_at g) one g.scope >>= λ it. fine it.scope;
+      behind = λ g. statement g.forbidden one g.scope >>= λ it. fine it.scope;
       as_fragment = no_fragment;
     }
 
 -- the start of a `for`
 abbrev pub started : Option Stmt → Ground → Judged Ground
 started None g = fine g
-started (Some start) g = statement (forbidden_at g) start g.scope >>= λ it. fine (behind_start (declared_by start) g it.scope)
+started (Some start) g = statement g.forbidden start g.scope >>= λ it. fine (behind_start (declared_by start) g it.scope)
 
 abbrev pub step_rules : Expr → Ground → List Broken
 step_rules a g = found (value g a)
@@ -150,4 +152,10 @@ module _ (home : Home) where
   unfoldable pub part_of : TNode → Part
   part_of =
       fold-TNode Part Part_of_switch part
+      (λ section. record { does = λ deed. any_does section.items deed; rules = section_rules section.labels section.items })
+
+  -- a section of a `switch`
+  unfoldable pub part_of_section : TSection → Part_of_switch
+  part_of_section =
+      fold-TSection Part Part_of_switch part
       (λ section. record { does = λ deed. any_does section.items deed; rules = section_rules section.labels section.items })

@@ -29,7 +29,8 @@ use Rattle.cs_rules.specs.Types.{same_type, wants}
 use Rattle.cs_rules.specs.Written.{is_comparable}
 use Rattle.cs_forbidden.specs.Trees.{value_in}
 use Rattle.razor_rules.specs.Bodies.{judged_body}
-use Rattle.razor_rules.specs.Grounds.{Ground, forbidden_at, forbidden_in_lambda}
+use Rattle.razor_rules.specs.declared.ground.Ground.{Ground}
+use Rattle.razor_rules.specs.Grounds.{forbidden_in_lambda}
 
 -- the types that are shown as content: those that show a text, markup, and fragments that are given all that they take
 abbrev pub is_content_level : CsType-F CsType → Bool
@@ -93,7 +94,7 @@ lambda_scope s place (Some name) (Some argument) = do
 module _ (g : Ground) where
   -- an expression
   abbrev pub value : Expr → Judged Checked
-  value a = value_in (forbidden_at g) g.scope a
+  value a = value_in g.forbidden g.scope a
 
   -- an expression as content
   unfoldable pub content : Expr → Judged (Unit {0})

@@ -7,7 +7,9 @@
 #![tactic(auto)]
 
 mod finding;
+mod ground;
 mod laws;
 
 pub use finding::Broken;
+pub use ground::Ground;
 pub use laws::{a_program_breaks_one_rule_first, no_broken_rule_comes_before_the_first};

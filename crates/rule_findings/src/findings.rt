@@ -1,5 +1,5 @@
 // Broken rules as they are found.
-ghost use Rattle.std.specs.Prelude.{◌≡◌, Some, None};
+ghost use Rattle.std.specs.Prelude.{◌≡◌, [], ◌∷◌, Some, None};
 ghost use Rattle.razor_rules.specs.Findings as spec;
 
 use cs_rules::Rule;
@@ -79,16 +79,18 @@ impl Findings {
     }
 
     /// One more broken rule.
+    #[tactic(auto, unfolding(razor_rules::specs::Findings::also))]
     pub fn add(&mut self, rule: Rule, place: Place)
-        ensures { self.new.first ≡ spec.merged self.old.first (Some (spec.broken rule place)) }
+        ensures { self.new.first ≡ spec.also self.old.first (spec.broken rule place ∷ []) }
     {
         let one = Broken { rule, place };
         self.first = Some(merged(self.first, one));
     }
 
     /// A broken rule where a test fails.
+    #[tactic(auto, using(razor_rules::proofs::FirstLaws::also_nothing))]
     pub fn add_unless(&mut self, holds: bool, rule: Rule, place: Place)
-        ensures { self.new.first ≡ spec.merged self.old.first (spec.first_of (spec.broken_unless holds rule place)) }
+        ensures { self.new.first ≡ spec.also self.old.first (spec.broken_unless holds rule place) }
     {
         if !holds {
             self.add(rule, place);

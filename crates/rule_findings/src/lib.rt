@@ -8,5 +8,5 @@ mod findings;
 mod names;
 
 pub use findings::Findings;
-pub use names::{Name, is_among, repeated};
+pub use names::{Name, is_among, repeated, repeated_behind};
 pub use razor_rules::Broken;
