@@ -1,4 +1,4 @@
-mod TemplateLaws
+pub mod TemplateLaws
 pub mod FirstLaws
 mod FactLaws
 mod Examples
