@@ -62,7 +62,7 @@ once q xs i j one other same = elim (order i j) [
     ]
 
 -- each pair is told
-told-pair : (olds news : List Slot) (from : List (Option ℕ)) (i j : ℕ) → TellsSlots olds news from → Pair same_address (addresses olds) (addresses news) i j → slice_get from j ≡ Some (Some i)
+pub told-pair : (olds news : List Slot) (from : List (Option ℕ)) (i j : ℕ) → TellsSlots olds news from → Pair same_address (addresses olds) (addresses news) i j → slice_get from j ≡ Some (Some i)
 told-pair olds news from i j tells pair = by_answer (slice_get from j) refl
   where
     beyond : {X : Type 0} (xs : List X) (k : ℕ) → slice_get xs k ≡ None → k < length xs → ⊥

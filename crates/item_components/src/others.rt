@@ -1,6 +1,5 @@
 // The component items that do not pair.
-ghost use Rattle.std.specs.Prelude.{◌≡◌, ◌==◌, map, IfOk};
-ghost use Rattle.std.specs.List.{list_any};
+ghost use Rattle.std.specs.Prelude.{◌≡◌, map, IfOk};
 ghost use Rattle.pairing_meaning.specs.Components.{orders_of};
 ghost use Rattle.item_components.specs.Listed.{without};
 
@@ -9,24 +8,13 @@ use frame_core::Item;
 use sqlite_items::Items;
 use std::alloc::{AllocError, Global};
 
-fn has(orders: &[u32], order: u32) -> bool
-    ensures { result ≡ list_any (λ other. other == order) orders.now }
-{
-    for other in orders {
-        if *other == order {
-            return true;
-        }
-    }
-    false
-}
-
 /// Those of the places that are not among the others.
 fn without(alloc: Global, orders: &[u32], others: &[u32]) -> Result<Items<u32>, AllocError>
     ensures { IfOk result (λ them. them ≡ without others.now orders.now) }
 {
     let mut them = Items::new(alloc);
     for order in orders {
-        if !has(others, *order) {
+        if !others.contains(order) {
             them.push(*order)?;
         }
     }

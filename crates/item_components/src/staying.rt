@@ -1,5 +1,5 @@
 // The component items that pair.
-ghost use Rattle.std.specs.Prelude.{◌≡◌, ◌<◌, ◌^◌, [], ◌∷◌, length, map, slice_get, IfOk};
+ghost use Rattle.std.specs.Prelude.{◌≡◌, ◌<◌, ◌^◌, [], ◌∷◌, map, IfOk};
 ghost use Rattle.pairing_meaning.specs.Labels.{label_of};
 ghost use Rattle.pairing_meaning.specs.Slots.{slots_of};
 ghost use Rattle.pairing_meaning.specs.Components.{Retained};
@@ -9,7 +9,7 @@ ghost use Rattle.item_edits.specs.Steps.{IsLike};
 ghost use Rattle.item_components.specs.Listed.{Lists, Within, WithinSlot, AllSmall};
 
 use frame_core::Item;
-use item_pairing::{Slot, pair, slots_in};
+use item_pairing::{Slot, pair, place_at, slots_in};
 use sqlite_items::Items;
 use std::alloc::{AllocError, Global};
 
@@ -61,13 +61,6 @@ fn of_slot(
         Some(old) => of_pair(alloc, old.item, new),
         None => Ok(Items::new(alloc)),
     }
-}
-
-fn place_at(from: &[Option<u32>], place: usize) -> Option<u32>
-    requires { place < length from.now }
-    ensures { slice_get from.now place ≡ Some result }
-{
-    from[place]
 }
 
 /// The component items that pair, the old one first.

@@ -5,11 +5,11 @@ ghost use Rattle.cs_meaning.specs.FirstForms.{IsStatement};
 ghost use Rattle.plain_page.specs.Runnable.{IsRunnable};
 ghost use Rattle.first_click.specs.Weight.{weight};
 
-use plain_page::{PlainScreen, PlainStage};
 use cs_ast::{Code, StepOp, Variable};
 use first_click::{Component, Field, Item, Method};
 use hub_messages::{Acted, At, Bytes, Made, Outcome, PrintScreen, Screen, ScreenFault, Stage};
 use page_core::{ApplyFault, BatchFault, Counts};
+use plain_page::{PlainScreen, PlainStage};
 use sqlite_items::{Boxed, Items};
 use std::alloc::Global;
 use std::process::Abort;

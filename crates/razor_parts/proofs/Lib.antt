@@ -1,0 +1,13 @@
+pub mod NumberLaws
+pub mod FormLaws
+pub mod LeavesLaws
+pub mod DeedLaws
+pub mod ListLemmas
+pub mod TakenLaws
+pub mod NodeLaws
+pub mod TypeLaws
+pub mod HeldLaws
+pub mod CircleLaws
+pub mod NameLemmas
+pub mod EffectLemmas
+pub mod WordLaws
