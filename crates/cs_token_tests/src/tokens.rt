@@ -1,6 +1,7 @@
 // The tokens of short texts, and the first faults in them.
 use cs_token::{LexFault, Sign, Token, TokenKind, Word, tokens};
 use std::alloc::Global;
+use std::process::Abort;
 use std::test::Fail;
 use text_core::{Oom, Place, Txt, show_i32};
 
@@ -62,141 +63,112 @@ fn shown(alloc: Global, tokens: &[Token]) -> Result<Txt, Oom> {
     Ok(line)
 }
 
-#[test]
-fn reads_tokens(rt: HostRuntime) -> Result<(), Fail> {
-    let alloc = rt.alloc();
-    for (text, expected) in [
-        ("", ""),
-        (" \t\r\n ", ""),
-        ("x", "x"),
-        ("_a9 Z", "_a9 Z"),
-        ("0 007 42 2147483647", "#0 #7 #42 #2147483647"),
-        ("1a", "#1 a"),
-        ("1.5", "#1 . #5"),
-        ("1L", "#1 L"),
-        ("int x = 1;", ":int x = #1 ;"),
-        ("intx int_ Int iN", "intx int_ Int iN"),
-        ("record with", "record with"),
-        ("a?.b ?? c ? d : e", "a ?. b ?? c ? d : e"),
-        ("a?.5:b", "a ?. #5 : b"),
-        (
-            "ImmutableList<ImmutableList<int>>",
-            ":ImmutableList < :ImmutableList < :int > >",
-        ),
-        ("a+++b--- -c", "a ++ + b -- - - c"),
-        ("a<=b>=c==d!=e=>f", "a <= b >= c == d != e => f"),
-        ("!a&&b||c", "! a && b || c"),
-        ("a===b", "a == = b"),
-        ("///\nx", "x"),
-        ("a // b \"\n/c", "a / c"),
-        ("a//", "a"),
-        ("a/* b */c/**/d/***/e/*/*/f", "a c d e f"),
-        ("/* \n */ x", "x"),
-        ("a / *b", "a / * b"),
-    ] {
+/// The tokens of each text are those beside it.
+fn are_tokens(rt: &impl Abort, alloc: Global, rows: &[(&str, &str)]) -> Result<(), Fail> {
+    for (text, expected) in rows {
         let tokens = lexed(alloc, text)?;
-        assert_eq!(rt; shown(alloc, &tokens)?.as_str(), expected, "{text:?}");
+        assert_eq!(rt; shown(alloc, &tokens)?.as_str(), *expected, "{text:?}");
     }
     Ok(())
+}
+
+#[test]
+fn reads_tokens(rt: HostRuntime) -> Result<(), Fail> {
+    are_tokens(
+        &rt,
+        rt.alloc(),
+        &[
+            ("", ""),
+            (" \t\r\n ", ""),
+            ("x", "x"),
+            ("_a9 Z", "_a9 Z"),
+            ("0 007 42 2147483647", "#0 #7 #42 #2147483647"),
+            ("1a", "#1 a"),
+            ("1.5", "#1 . #5"),
+            ("1L", "#1 L"),
+            ("int x = 1;", ":int x = #1 ;"),
+            ("intx int_ Int iN", "intx int_ Int iN"),
+            ("record with", "record with"),
+            ("a?.b ?? c ? d : e", "a ?. b ?? c ? d : e"),
+            ("a?.5:b", "a ?. #5 : b"),
+            (
+                "ImmutableList<ImmutableList<int>>",
+                ":ImmutableList < :ImmutableList < :int > >",
+            ),
+            ("a+++b--- -c", "a ++ + b -- - - c"),
+            ("a<=b>=c==d!=e=>f", "a <= b >= c == d != e => f"),
+            ("!a&&b||c", "! a && b || c"),
+            ("a===b", "a == = b"),
+            ("///\nx", "x"),
+            ("a // b \"\n/c", "a / c"),
+            ("a//", "a"),
+            ("a/* b */c/**/d/***/e/*/*/f", "a c d e f"),
+            ("/* \n */ x", "x"),
+            ("a / *b", "a / * b"),
+        ],
+    )
 }
 
 #[test]
 fn reads_texts(rt: HostRuntime) -> Result<(), Fail> {
-    let alloc = rt.alloc();
-    for (text, expected) in [
-        ("\"\"", "\"\""),
-        ("\"a b\"c", "\"a b\" c"),
-        ("\"{}//'\"", "\"{}//'\""),
-        ("\"é日𝄞\"", "\"é日𝄞\""),
-        ("\"a\rb\"", "\"a\rb\""),
-        (r#""\\""#, r#""\""#),
-        (r#""\"""#, r#"""""#),
-        (r#""\'""#, r#""'""#),
-        (r#""\0""#, "\"\0\""),
-        (r#""\n""#, "\"\n\""),
-        (r#""\r""#, "\"\r\""),
-        (r#""\t""#, "\"\t\""),
-        (r#""\u0041\u00e9\u00E9\uFFFD""#, "\"Aéé\u{FFFD}\""),
-        (r#""\u00411""#, "\"A1\""),
-        (r#""\uD7FF\uE000""#, "\"\u{D7FF}\u{E000}\""),
-    ] {
-        let tokens = lexed(alloc, text)?;
-        assert_eq!(rt; shown(alloc, &tokens)?.as_str(), expected, "{text:?}");
-    }
-    Ok(())
+    are_tokens(
+        &rt,
+        rt.alloc(),
+        &[
+            ("\"\"", "\"\""),
+            ("\"a b\"c", "\"a b\" c"),
+            ("\"{}//'\"", "\"{}//'\""),
+            ("\"é日𝄞\"", "\"é日𝄞\""),
+            ("\"a\rb\"", "\"a\rb\""),
+            (r#""\\""#, r#""\""#),
+            (r#""\"""#, r#"""""#),
+            (r#""\'""#, r#""'""#),
+            (r#""\0""#, "\"\0\""),
+            (r#""\n""#, "\"\n\""),
+            (r#""\r""#, "\"\r\""),
+            (r#""\t""#, "\"\t\""),
+            (r#""\u0041\u00e9\u00E9\uFFFD""#, "\"Aéé\u{FFFD}\""),
+            (r#""\u00411""#, "\"A1\""),
+            (r#""\uD7FF\uE000""#, "\"\u{D7FF}\u{E000}\""),
+        ],
+    )
 }
 
 #[test]
 fn reads_interpolated_texts(rt: HostRuntime) -> Result<(), Fail> {
-    let alloc = rt.alloc();
-    for (text, expected) in [
-        ("$\"\"", "$\" \">"),
-        ("$\"a\"", "$\" 'a' \">"),
-        ("$\"{x}\"", "$\" <{ x }> \">"),
-        ("$\"a{x}b{ y }c\";", "$\" 'a' <{ x }> 'b' <{ y }> 'c' \"> ;"),
-        ("$\"{{{x}}}\"", "$\" '{' <{ x }> '}' \">"),
-        ("$\"{{}}\"", "$\" '{}' \">"),
-        (r#"$"\"\n{x}\u0041""#, "$\" '\"\n' <{ x }> 'A' \">"),
-        ("$\"{\"}\"}\"", "$\" <{ \"}\" }> \">"),
-        ("$\"{$\"{x}\"}\"", "$\" <{ $\" <{ x }> \"> }> \">"),
-        ("$\"{a with { B = 1 }}\"", "$\" <{ a with { B = #1 } }> \">"),
-        ("$\"{ /* } */ x /**/ }\"", "$\" <{ x }> \">"),
-        ("$\"{x:y}{x,5}\"", "$\" <{ x : y }> <{ x , #5 }> \">"),
-        ("{ $\"{x}\" }", "{ $\" <{ x }> \"> }"),
-        ("$\"//{x}/*\"", "$\" '//' <{ x }> '/*' \">"),
-    ] {
-        let tokens = lexed(alloc, text)?;
-        assert_eq!(rt; shown(alloc, &tokens)?.as_str(), expected, "{text:?}");
-    }
+    are_tokens(
+        &rt,
+        rt.alloc(),
+        &[
+            ("$\"\"", "$\" \">"),
+            ("$\"a\"", "$\" 'a' \">"),
+            ("$\"{x}\"", "$\" <{ x }> \">"),
+            ("$\"a{x}b{ y }c\";", "$\" 'a' <{ x }> 'b' <{ y }> 'c' \"> ;"),
+            ("$\"{{{x}}}\"", "$\" '{' <{ x }> '}' \">"),
+            ("$\"{{}}\"", "$\" '{}' \">"),
+            (r#"$"\"\n{x}\u0041""#, "$\" '\"\n' <{ x }> 'A' \">"),
+            ("$\"{\"}\"}\"", "$\" <{ \"}\" }> \">"),
+            ("$\"{$\"{x}\"}\"", "$\" <{ $\" <{ x }> \"> }> \">"),
+            ("$\"{a with { B = 1 }}\"", "$\" <{ a with { B = #1 } }> \">"),
+            ("$\"{ /* } */ x /**/ }\"", "$\" <{ x }> \">"),
+            ("$\"{x:y}{x,5}\"", "$\" <{ x : y }> <{ x , #5 }> \">"),
+            ("{ $\"{x}\" }", "{ $\" <{ x }> \"> }"),
+            ("$\"//{x}/*\"", "$\" '//' <{ x }> '/*' \">"),
+        ],
+    )
+}
+
+/// Each text is one token, of this kind.
+fn is_token(rt: &impl Abort, alloc: Global, text: &str, kind: &TokenKind) -> Result<(), Fail> {
+    let tokens = lexed(alloc, text)?;
+    assert_eq!(rt; tokens.len(), 1, "{text:?}");
+    assert!(rt; tokens[0].kind == *kind, "{text:?}");
     Ok(())
 }
 
-#[test]
-fn knows_every_word(rt: HostRuntime) -> Result<(), Fail> {
-    let alloc = rt.alloc();
-    for (text, word) in [
-        ("async", Word::Async),
-        ("await", Word::Await),
-        ("bool", Word::Bool),
-        ("break", Word::Break),
-        ("case", Word::Case),
-        ("continue", Word::Continue),
-        ("default", Word::Default),
-        ("else", Word::Else),
-        ("false", Word::False),
-        ("for", Word::For),
-        ("foreach", Word::Foreach),
-        ("if", Word::If),
-        ("in", Word::In),
-        ("int", Word::Int),
-        ("internal", Word::Internal),
-        ("new", Word::New),
-        ("null", Word::Null),
-        ("override", Word::Override),
-        ("private", Word::Private),
-        ("protected", Word::Protected),
-        ("public", Word::Public),
-        ("return", Word::Return),
-        ("string", Word::String),
-        ("switch", Word::Switch),
-        ("true", Word::True),
-        ("var", Word::Var),
-        ("void", Word::Void),
-        ("while", Word::While),
-        ("Task", Word::Task),
-        ("MarkupString", Word::MarkupString),
-        ("ImmutableList", Word::ImmutableList),
-        ("EventCallback", Word::EventCallback),
-        ("RenderFragment", Word::RenderFragment),
-        ("ChangeEventArgs", Word::ChangeEventArgs),
-        ("EventArgs", Word::EventArgs),
-        ("MouseEventArgs", Word::MouseEventArgs),
-        ("KeyboardEventArgs", Word::KeyboardEventArgs),
-        ("FocusEventArgs", Word::FocusEventArgs),
-    ] {
-        let tokens = lexed(alloc, text)?;
-        assert_eq!(rt; tokens.len(), 1, "{text:?}");
-        assert!(rt; tokens[0].kind == TokenKind::Word(word), "{text:?}");
+fn are_words(rt: &impl Abort, alloc: Global, rows: &[(&str, Word)]) -> Result<(), Fail> {
+    for (text, word) in rows {
+        is_token(rt, alloc, text, &TokenKind::Word(*word))?;
         let spelled = Txt::from_str(alloc, text)?;
         assert!(rt; spelled.is(word.spelling()), "{text:?}");
     }
@@ -204,167 +176,249 @@ fn knows_every_word(rt: HostRuntime) -> Result<(), Fail> {
 }
 
 #[test]
-fn knows_every_sign(rt: HostRuntime) -> Result<(), Fail> {
-    let alloc = rt.alloc();
-    for (text, sign) in [
-        ("(", Sign::OpenRound),
-        (")", Sign::CloseRound),
-        ("[", Sign::OpenSquare),
-        ("]", Sign::CloseSquare),
-        ("{", Sign::OpenBrace),
-        ("}", Sign::CloseBrace),
-        (",", Sign::Comma),
-        (";", Sign::Semicolon),
-        (".", Sign::Dot),
-        ("?.", Sign::QuestionDot),
-        ("?", Sign::Question),
-        ("??", Sign::QuestionQuestion),
-        (":", Sign::Colon),
-        ("=", Sign::Assign),
-        ("+=", Sign::AddAssign),
-        ("-=", Sign::SubtractAssign),
-        ("*=", Sign::MultiplyAssign),
-        ("/=", Sign::DivideAssign),
-        ("%=", Sign::RemainderAssign),
-        ("==", Sign::Equal),
-        ("!=", Sign::NotEqual),
-        ("<", Sign::Less),
-        (">", Sign::Greater),
-        ("<=", Sign::LessOrEqual),
-        (">=", Sign::GreaterOrEqual),
-        ("+", Sign::Plus),
-        ("-", Sign::Minus),
-        ("*", Sign::Star),
-        ("/", Sign::Slash),
-        ("%", Sign::Percent),
-        ("++", Sign::PlusPlus),
-        ("--", Sign::MinusMinus),
-        ("!", Sign::Not),
-        ("&&", Sign::And),
-        ("||", Sign::Or),
-        ("=>", Sign::Arrow),
-    ] {
-        let tokens = lexed(alloc, text)?;
-        assert_eq!(rt; tokens.len(), 1, "{text:?}");
-        assert!(rt; tokens[0].kind == TokenKind::Sign(sign), "{text:?}");
+fn knows_every_word(rt: HostRuntime) -> Result<(), Fail> {
+    are_words(
+        &rt,
+        rt.alloc(),
+        &[
+            ("async", Word::Async),
+            ("await", Word::Await),
+            ("bool", Word::Bool),
+            ("break", Word::Break),
+            ("case", Word::Case),
+            ("continue", Word::Continue),
+            ("default", Word::Default),
+            ("else", Word::Else),
+            ("false", Word::False),
+            ("for", Word::For),
+            ("foreach", Word::Foreach),
+            ("if", Word::If),
+            ("in", Word::In),
+            ("int", Word::Int),
+            ("internal", Word::Internal),
+            ("new", Word::New),
+            ("null", Word::Null),
+            ("override", Word::Override),
+            ("private", Word::Private),
+            ("protected", Word::Protected),
+            ("public", Word::Public),
+            ("return", Word::Return),
+            ("string", Word::String),
+            ("switch", Word::Switch),
+            ("true", Word::True),
+            ("var", Word::Var),
+            ("void", Word::Void),
+            ("while", Word::While),
+            ("Task", Word::Task),
+            ("MarkupString", Word::MarkupString),
+            ("ImmutableList", Word::ImmutableList),
+            ("EventCallback", Word::EventCallback),
+            ("RenderFragment", Word::RenderFragment),
+            ("ChangeEventArgs", Word::ChangeEventArgs),
+            ("EventArgs", Word::EventArgs),
+            ("MouseEventArgs", Word::MouseEventArgs),
+            ("KeyboardEventArgs", Word::KeyboardEventArgs),
+            ("FocusEventArgs", Word::FocusEventArgs),
+        ],
+    )
+}
+
+fn are_signs(rt: &impl Abort, alloc: Global, rows: &[(&str, Sign)]) -> Result<(), Fail> {
+    for (text, sign) in rows {
+        is_token(rt, alloc, text, &TokenKind::Sign(*sign))?;
     }
     Ok(())
 }
 
 #[test]
-fn tells_spans_and_places(rt: HostRuntime) -> Result<(), Fail> {
-    let alloc = rt.alloc();
-    let tokens = lexed(alloc, " = \"\\n\";\r\n\t$\"a{1}\"")?;
-    let spans = [
-        (1, 2, 1, 2),
-        (3, 7, 1, 4),
-        (7, 8, 1, 8),
-        (11, 13, 2, 2),
-        (13, 14, 2, 4),
-        (14, 15, 2, 5),
-        (15, 16, 2, 6),
-        (16, 17, 2, 7),
-        (17, 18, 2, 8),
-    ];
+fn knows_every_sign(rt: HostRuntime) -> Result<(), Fail> {
+    are_signs(
+        &rt,
+        rt.alloc(),
+        &[
+            ("(", Sign::OpenRound),
+            (")", Sign::CloseRound),
+            ("[", Sign::OpenSquare),
+            ("]", Sign::CloseSquare),
+            ("{", Sign::OpenBrace),
+            ("}", Sign::CloseBrace),
+            (",", Sign::Comma),
+            (";", Sign::Semicolon),
+            (".", Sign::Dot),
+            ("?.", Sign::QuestionDot),
+            ("?", Sign::Question),
+            ("??", Sign::QuestionQuestion),
+            (":", Sign::Colon),
+            ("=", Sign::Assign),
+            ("+=", Sign::AddAssign),
+            ("-=", Sign::SubtractAssign),
+            ("*=", Sign::MultiplyAssign),
+            ("/=", Sign::DivideAssign),
+            ("%=", Sign::RemainderAssign),
+            ("==", Sign::Equal),
+            ("!=", Sign::NotEqual),
+            ("<", Sign::Less),
+            (">", Sign::Greater),
+            ("<=", Sign::LessOrEqual),
+            (">=", Sign::GreaterOrEqual),
+            ("+", Sign::Plus),
+            ("-", Sign::Minus),
+            ("*", Sign::Star),
+            ("/", Sign::Slash),
+            ("%", Sign::Percent),
+            ("++", Sign::PlusPlus),
+            ("--", Sign::MinusMinus),
+            ("!", Sign::Not),
+            ("&&", Sign::And),
+            ("||", Sign::Or),
+            ("=>", Sign::Arrow),
+        ],
+    )
+}
+
+/// Each token with the start, the end, the line and the column beside it.
+fn are_at(rt: &impl Abort, tokens: &[Token], spans: &[(u32, u32, u32, u32)]) {
     assert_eq!(rt; tokens.len(), spans.len());
     for (token, (start, end, line, column)) in tokens.iter().zip(spans) {
-        assert_eq!(rt; (token.start, token.end), (start, end));
-        assert_eq!(rt; token.place, Place { line, column });
+        assert_eq!(rt; (token.start, token.end), (*start, *end));
+        let place = Place {
+            line: *line,
+            column: *column,
+        };
+        assert_eq!(rt; token.place, place);
     }
+}
+
+#[test]
+fn tells_spans_and_places(rt: HostRuntime) -> Result<(), Fail> {
+    let tokens = lexed(rt.alloc(), " = \"\\n\";\r\n\t$\"a{1}\"")?;
+    are_at(
+        &rt,
+        &tokens,
+        &[
+            (1, 2, 1, 2),
+            (3, 7, 1, 4),
+            (7, 8, 1, 8),
+            (11, 13, 2, 2),
+            (13, 14, 2, 4),
+            (14, 15, 2, 5),
+            (15, 16, 2, 6),
+            (16, 17, 2, 7),
+            (17, 18, 2, 8),
+        ],
+    );
     Ok(())
 }
 
-fn at(line: u32, column: u32) -> Place {
-    Place { line, column }
-}
-
-fn bad_character(line: u32, column: u32) -> LexFault {
-    LexFault::BadCharacter {
-        place: at(line, column),
+/// What is wrong, with its line and its column.
+fn told(fault: &LexFault) -> (&'static str, u32, u32) {
+    match fault {
+        LexFault::BadCharacter { place } => ("character", place.line, place.column),
+        LexFault::UnendedText { place } => ("text", place.line, place.column),
+        LexFault::UnendedComment { place } => ("comment", place.line, place.column),
+        LexFault::NumberTooWide { place } => ("number", place.line, place.column),
+        LexFault::Oom => ("memory", 0, 0),
     }
 }
 
-fn unended_text(line: u32, column: u32) -> LexFault {
-    LexFault::UnendedText {
-        place: at(line, column),
+fn first_fault(alloc: Global, text: &str) -> (&'static str, u32, u32) {
+    match lexed(alloc, text) {
+        Ok(_) => ("", 0, 0),
+        Err(fault) => told(&fault),
     }
 }
 
-fn unended_comment(line: u32, column: u32) -> LexFault {
-    LexFault::UnendedComment {
-        place: at(line, column),
-    }
-}
-
-fn number_too_wide(line: u32, column: u32) -> LexFault {
-    LexFault::NumberTooWide {
-        place: at(line, column),
+fn are_faults(rt: &impl Abort, alloc: Global, rows: &[(&str, &'static str, u32, u32)]) {
+    for (text, wrong, line, column) in rows {
+        assert_eq!(rt;
+            first_fault(alloc, text),
+            (*wrong, *line, *column),
+            "{text:?}"
+        );
     }
 }
 
 #[test]
 fn finds_the_first_fault(rt: HostRuntime) {
-    let alloc = rt.alloc();
-    for (text, fault) in [
-        ("#", bad_character(1, 1)),
-        ("a\n  #", bad_character(2, 3)),
-        ("\r#", bad_character(1, 2)),
-        ("é", bad_character(1, 1)),
-        ("\"é\" é", bad_character(1, 5)),
-        ("'a'", bad_character(1, 1)),
-        ("a & b", bad_character(1, 3)),
-        ("a|b", bad_character(1, 2)),
-        ("&&&", bad_character(1, 3)),
-        ("$ \"\"", bad_character(1, 1)),
-        ("@x", bad_character(1, 1)),
-        ("\\", bad_character(1, 1)),
-        ("\"a", unended_text(1, 1)),
-        ("a \"b\nc\"", unended_text(1, 3)),
-        ("\n \"", unended_text(2, 2)),
-        ("/* a", unended_comment(1, 1)),
-        ("/*/", unended_comment(1, 1)),
-        ("1\n/**\n*", unended_comment(2, 1)),
-        ("2147483648", number_too_wide(1, 1)),
-        ("a 99999999999999999999", number_too_wide(1, 3)),
-        (r#""\q""#, bad_character(1, 2)),
-        (r#""a\x""#, bad_character(1, 3)),
-        (r#""\"#, bad_character(1, 2)),
-        (r#""\u12G4""#, bad_character(1, 2)),
-        (r#""\u123""#, bad_character(1, 2)),
-        (r#""\uD800""#, bad_character(1, 2)),
-        (r#""\uDFFF""#, bad_character(1, 2)),
-        ("$\"}\"", bad_character(1, 3)),
-        ("$\"a\\q\"", bad_character(1, 4)),
-        ("$\"{#}\"", bad_character(1, 4)),
-        ("$\"{2147483648}\"", number_too_wide(1, 4)),
-        ("$\"a", unended_text(1, 1)),
-        ("x\n$\"a{b", unended_text(2, 1)),
-        ("$\"{x\n}\"", unended_text(1, 1)),
-        ("$\"{a{b}\"", unended_text(1, 1)),
-        ("$\"{ \"a", unended_text(1, 1)),
-        ("$\"{$\"{\n", unended_text(1, 1)),
-        ("$\"{$\"a\"}b", unended_text(1, 1)),
-        ("$\"\" $\"", unended_text(1, 5)),
-        ("$\"{/* a", unended_text(1, 1)),
-        ("$\"{/*\n*/x}\"", unended_text(1, 1)),
-        ("$\"{x // }\"", unended_text(1, 1)),
-        ("# \"", bad_character(1, 1)),
-    ] {
-        assert_eq!(rt; lexed(alloc, text).err(), Some(fault), "{text:?}");
-    }
+    are_faults(
+        &rt,
+        rt.alloc(),
+        &[
+            ("#", "character", 1, 1),
+            ("a\n  #", "character", 2, 3),
+            ("\r#", "character", 1, 2),
+            ("é", "character", 1, 1),
+            ("\"é\" é", "character", 1, 5),
+            ("'a'", "character", 1, 1),
+            ("a & b", "character", 1, 3),
+            ("a|b", "character", 1, 2),
+            ("&&&", "character", 1, 3),
+            ("$ \"\"", "character", 1, 1),
+            ("@x", "character", 1, 1),
+            ("\\", "character", 1, 1),
+            ("\"a", "text", 1, 1),
+            ("a \"b\nc\"", "text", 1, 3),
+            ("\n \"", "text", 2, 2),
+            ("/* a", "comment", 1, 1),
+            ("/*/", "comment", 1, 1),
+            ("1\n/**\n*", "comment", 2, 1),
+            ("2147483648", "number", 1, 1),
+            ("a 99999999999999999999", "number", 1, 3),
+            (r#""\q""#, "character", 1, 2),
+            (r#""a\x""#, "character", 1, 3),
+            (r#""\"#, "character", 1, 2),
+            (r#""\u12G4""#, "character", 1, 2),
+            (r#""\u123""#, "character", 1, 2),
+            (r#""\uD800""#, "character", 1, 2),
+            (r#""\uDFFF""#, "character", 1, 2),
+            ("$\"}\"", "character", 1, 3),
+            ("$\"a\\q\"", "character", 1, 4),
+            ("$\"{#}\"", "character", 1, 4),
+            ("$\"{2147483648}\"", "number", 1, 4),
+            ("$\"a", "text", 1, 1),
+            ("x\n$\"a{b", "text", 2, 1),
+            ("$\"{x\n}\"", "text", 1, 1),
+            ("$\"{a{b}\"", "text", 1, 1),
+            ("$\"{ \"a", "text", 1, 1),
+            ("$\"{$\"{\n", "text", 1, 1),
+            ("$\"{$\"a\"}b", "text", 1, 1),
+            ("$\"\" $\"", "text", 1, 5),
+            ("$\"{/* a", "text", 1, 1),
+            ("$\"{/*\n*/x}\"", "text", 1, 1),
+            ("$\"{x // }\"", "text", 1, 1),
+            ("# \"", "character", 1, 1),
+        ],
+    );
 }
+
+const START: Place = Place { line: 1, column: 1 };
+
+/// What is said of each fault.
+const SAID: &[(LexFault, &str)] = &[
+    (
+        LexFault::BadCharacter { place: START },
+        "a character that is part of no token",
+    ),
+    (
+        LexFault::UnendedText { place: START },
+        "a text that isn't closed in its line",
+    ),
+    (
+        LexFault::UnendedComment { place: START },
+        "a comment that isn't closed",
+    ),
+    (
+        LexFault::NumberTooWide { place: START },
+        "a number above 2147483647",
+    ),
+    (LexFault::Oom, "out of memory"),
+];
 
 #[test]
 fn names_faults(rt: HostRuntime) -> Result<(), Fail> {
     let alloc = rt.alloc();
-    for (fault, line) in [
-        (bad_character(1, 1), "a character that is part of no token"),
-        (unended_text(1, 1), "a text that isn't closed in its line"),
-        (unended_comment(1, 1), "a comment that isn't closed"),
-        (number_too_wide(1, 1), "a number above 2147483647"),
-        (LexFault::Oom, "out of memory"),
-    ] {
-        assert_eq!(rt; fault.to_string(alloc)?.as_str(), line);
+    for (fault, line) in SAID {
+        assert_eq!(rt; fault.to_string(alloc)?.as_str(), *line);
     }
     Ok(())
 }
