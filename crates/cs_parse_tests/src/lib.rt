@@ -10,4 +10,8 @@ mod lambdas;
 #[cfg(test)]
 mod members;
 #[cfg(test)]
+mod reading;
+#[cfg(test)]
 mod statements;
+#[cfg(test)]
+mod words;
