@@ -25,59 +25,49 @@ fn made_of(alloc: Global, parts: &[(&str, usize)]) -> Result<String, Oom> {
     Ok(text)
 }
 
+/// The parts of a file, and the status of its run.
+const SIZES: &[(&[(&str, usize)], u8)] = &[
+    (&[("a", 65_536)], 0),
+    (&[("a", 65_537)], 1),
+    (&[("a", 1_048_576)], 1),
+    (&[("a", 1_048_577)], 8),
+    (&[("<b>", 100), ("</b>", 100)], 0),
+    (&[("<b>", 101), ("</b>", 101)], 1),
+    (&[("<b></b>", 1_000)], 0),
+    (&[("<b></b>", 1_001)], 1),
+    (&[("<b>x</b>", 500)], 0),
+    (&[("<b>x</b>", 500), ("x", 1)], 1),
+    (&[("@n ", 500), ("@code{int n=1;}", 1)], 0),
+    (&[("@n ", 501), ("@code{int n=1;}", 1)], 1),
+    (&[(BEGIN, 1), ("(", 97), ("1", 1), (")", 97), (END, 1)], 0),
+    (&[(BEGIN, 1), ("(", 98), ("1", 1), (")", 98), (END, 1)], 1),
+    (&[(BEGIN, 1), ("1+", 97), ("1", 1), (END, 1)], 0),
+    (&[(BEGIN, 1), ("1-", 98), ("1", 1), (END, 1)], 1),
+    (
+        &[
+            (BEGIN, 1),
+            ("1*", 97),
+            ("1;n=", 1),
+            ("1*", 97),
+            ("1", 1),
+            (END, 1),
+        ],
+        0,
+    ),
+    (&[(BEGIN, 1), ("1+(", 49), ("1", 1), (")", 49), (END, 1)], 1),
+    (&[(BEGIN, 1), ("1+(", 48), ("1", 1), (")", 48), (END, 1)], 0),
+    (&[(BEGIN, 1), ("1;n=", 1_000), ("1", 1), (END, 1)], 0),
+];
+
+fn status_of(alloc: Global, parts: &[(&str, usize)]) -> Result<u8, Oom> {
+    let text = made_of(alloc, parts)?;
+    Ok(page(alloc, text.as_str())?.status)
+}
+
 #[test]
 fn keeps_limits(rt: HostRuntime) -> Result<(), Fail> {
-    let alloc = rt.alloc();
-    for (parts, status) in [
-        ([("a", 65_536)].as_slice(), 0),
-        ([("a", 65_537)].as_slice(), 1),
-        ([("a", 1_048_576)].as_slice(), 1),
-        ([("a", 1_048_577)].as_slice(), 8),
-        ([("<b>", 100), ("</b>", 100)].as_slice(), 0),
-        ([("<b>", 101), ("</b>", 101)].as_slice(), 1),
-        ([("<b></b>", 1_000)].as_slice(), 0),
-        ([("<b></b>", 1_001)].as_slice(), 1),
-        ([("<b>x</b>", 500)].as_slice(), 0),
-        ([("<b>x</b>", 500), ("x", 1)].as_slice(), 1),
-        ([("@n ", 500), ("@code{int n=1;}", 1)].as_slice(), 0),
-        ([("@n ", 501), ("@code{int n=1;}", 1)].as_slice(), 1),
-        (
-            [(BEGIN, 1), ("(", 97), ("1", 1), (")", 97), (END, 1)].as_slice(),
-            0,
-        ),
-        (
-            [(BEGIN, 1), ("(", 98), ("1", 1), (")", 98), (END, 1)].as_slice(),
-            1,
-        ),
-        ([(BEGIN, 1), ("1+", 97), ("1", 1), (END, 1)].as_slice(), 0),
-        ([(BEGIN, 1), ("1-", 98), ("1", 1), (END, 1)].as_slice(), 1),
-        (
-            [
-                (BEGIN, 1),
-                ("1*", 97),
-                ("1;n=", 1),
-                ("1*", 97),
-                ("1", 1),
-                (END, 1),
-            ]
-            .as_slice(),
-            0,
-        ),
-        (
-            [(BEGIN, 1), ("1+(", 49), ("1", 1), (")", 49), (END, 1)].as_slice(),
-            1,
-        ),
-        (
-            [(BEGIN, 1), ("1+(", 48), ("1", 1), (")", 48), (END, 1)].as_slice(),
-            0,
-        ),
-        (
-            [(BEGIN, 1), ("1;n=", 1_000), ("1", 1), (END, 1)].as_slice(),
-            0,
-        ),
-    ] {
-        let ran = page(alloc, made_of(alloc, parts)?.as_str())?;
-        assert_eq!(rt; ran.status, status, "at {parts:?}");
+    for (parts, status) in SIZES {
+        assert_eq!(rt; status_of(rt.alloc(), parts)?, *status, "at {parts:?}");
     }
     Ok(())
 }

@@ -1,8 +1,9 @@
 // Transcripts of schedules.
-use crate::support::{Ran, all_files, run_over, texts};
+use crate::support::{Ran, all_files, ended, run_over, texts};
 use blazor_top::run;
 use outside::MemSink;
 use std::alloc::Global;
+use std::process::Abort;
 use std::test::Fail;
 use text_core::Oom;
 
@@ -58,8 +59,7 @@ fn schedule(
 #[test]
 fn tells_each_step(rt: HostRuntime) -> Result<(), Fail> {
     let ran = replayed(rt.alloc(), ONE_CLICK)?;
-    assert_eq!(rt; ran.status, 0);
-    assert_eq!(rt; ran.bytes.as_slice(), TRANSCRIPT.as_bytes());
+    ended(&rt, &ran, 0, TRANSCRIPT, "one click");
     Ok(())
 }
 
@@ -84,6 +84,14 @@ done 27
     Ok(())
 }
 
+fn are_read(rt: &impl Abort, alloc: Global, rows: &[(&str, u8, &str)]) -> Result<(), Fail> {
+    for (text, status, written) in rows {
+        let ran = replayed(alloc, text)?;
+        ended(rt, &ran, *status, written, text);
+    }
+    Ok(())
+}
+
 #[test]
 fn reads_schedules(rt: HostRuntime) -> Result<(), Fail> {
     let alloc = rt.alloc();
@@ -94,40 +102,42 @@ fn reads_schedules(rt: HostRuntime) -> Result<(), Fail> {
         100,
         "{\"do\":\"flow\",\"count\":1000}",
     )?;
-    for (text, status, written) in [
-        ("[]", 3, "schedule unread\n"),
-        ("", 3, "schedule unread\n"),
-        ("{\"steps\":[{\"do\":\"jump\"}]}", 3, "schedule step 1\n"),
-        (
-            "{\"steps\":[{\"do\":\"flow\",\"count\":1},{\"do\":\"flow\",\"count\":0}]}",
-            3,
-            "schedule step 2\n",
-        ),
-        (many.as_str(), 8, "too large s.json\n"),
-        ("{\"steps\":[]}", 0, "done 0\n"),
-        ("{\"steps\":[{\"do\":\"flow\",\"count\":5}]}", 0, "done 0\n"),
-    ] {
-        let ran = replayed(alloc, text)?;
-        assert_eq!(rt; ran.status, status, "at {text}");
-        assert_eq!(rt; ran.bytes.as_slice(), written.as_bytes(), "at {text}");
-    }
-    Ok(())
+    let ran = replayed(alloc, many.as_str())?;
+    ended(&rt, &ran, 8, "too large s.json\n", "many steps");
+    are_read(
+        &rt,
+        alloc,
+        &[
+            ("[]", 3, "schedule unread\n"),
+            ("", 3, "schedule unread\n"),
+            ("{\"steps\":[{\"do\":\"jump\"}]}", 3, "schedule step 1\n"),
+            (
+                "{\"steps\":[{\"do\":\"flow\",\"count\":1},{\"do\":\"flow\",\"count\":0}]}",
+                3,
+                "schedule step 2\n",
+            ),
+            ("{\"steps\":[]}", 0, "done 0\n"),
+            ("{\"steps\":[{\"do\":\"flow\",\"count\":5}]}", 0, "done 0\n"),
+        ],
+    )
+}
+
+/// The replay of one click, where this call of the sink fails.
+fn cut_off(alloc: Global, failing: u64) -> Result<Ran, Oom> {
+    let words = texts(alloc, &["replay", "s.json", "Counter.razor"])?;
+    let mut files = all_files(alloc, &[("s.json", ONE_CLICK), ("Counter.razor", COUNTER)])?;
+    let mut out = MemSink::new(alloc, [failing].to_vec(alloc)?);
+    let status = run(alloc, &words, &mut files, &mut out).status;
+    let bytes = out.bytes().to_vec(alloc)?;
+    Ok(Ran { status, bytes })
 }
 
 #[test]
 fn stops_at_the_line_that_fails(rt: HostRuntime) -> Result<(), Fail> {
     let alloc = rt.alloc();
-    let words = texts(alloc, &["replay", "s.json", "Counter.razor"])?;
-    for (failing, status, written) in [
-        (1, 6, ""),
-        (2, 6, "1 open 0: connection 1; sent 1\n"),
-        (12, 0, TRANSCRIPT),
-    ] {
-        let mut files = all_files(alloc, &[("s.json", ONE_CLICK), ("Counter.razor", COUNTER)])?;
-        let mut out = MemSink::new(alloc, [failing].to_vec(alloc)?);
-        let finished = run(alloc, &words, &mut files, &mut out);
-        assert_eq!(rt; finished.status, status, "call {failing}");
-        assert_eq!(rt; out.bytes(), written.as_bytes(), "call {failing}");
-    }
+    let first_line = "1 open 0: connection 1; sent 1\n";
+    ended(&rt, &cut_off(alloc, 1)?, 6, "", "call 1");
+    ended(&rt, &cut_off(alloc, 2)?, 6, first_line, "call 2");
+    ended(&rt, &cut_off(alloc, 12)?, 0, TRANSCRIPT, "call 12");
     Ok(())
 }

@@ -2,6 +2,7 @@
 use blazor_top::run;
 use outside::{MemFiles, MemSink};
 use std::alloc::Global;
+use std::process::Abort;
 use text_core::{Oom, Txt};
 
 /// How a run ended, and what it wrote.
@@ -53,4 +54,10 @@ pub fn outcome(alloc: Global, words: &[&str], name: &str, text: &str) -> Result<
 /// The page of a file, or the line in its place.
 pub fn page(alloc: Global, text: &str) -> Result<Ran, Oom> {
     outcome(alloc, &["render", "A.razor"], "A.razor", text)
+}
+
+/// A run ended with this status and wrote this text.
+pub fn ended(rt: &impl Abort, ran: &Ran, status: u8, written: &str, at: &str) {
+    assert_eq!(rt; ran.status, status, "at {at}");
+    assert_eq!(rt; ran.bytes.as_slice(), written.as_bytes(), "at {at}");
 }

@@ -1,37 +1,44 @@
 // Which words are a command.
-use crate::support::outcome;
+use crate::support::{ended, outcome};
+use std::alloc::Global;
+use std::process::Abort;
 use std::test::Fail;
+
+const USAGE: &str = "usage: blazor COMMAND ARGUMENTS\n";
+
+const WORDS: &[(&[&str], u8, &str)] = &[
+    (&[], 2, USAGE),
+    (&["--help"], 2, USAGE),
+    (&["render"], 2, USAGE),
+    (&["render", "--"], 2, USAGE),
+    (&["render", "-x"], 2, USAGE),
+    (&["render", "-"], 2, USAGE),
+    (&["render", "A.razor", "-x"], 2, USAGE),
+    (&["render", "A.razor", "A.razor"], 2, USAGE),
+    (&["render", "--", "A.razor", "A.razor"], 2, USAGE),
+    (&["render", "--", "A.razor", "--"], 2, USAGE),
+    (&["--", "render", "A.razor"], 2, USAGE),
+    (&["Render", "A.razor"], 2, USAGE),
+    (&["check", "A.razor"], 2, USAGE),
+    (&["render", "A.razor"], 0, "x\n"),
+    (&["render", "--", "A.razor"], 0, "x\n"),
+    (&["render", "A.razor", "--"], 0, "x\n"),
+    (&["render", "B.razor"], 4, "missing B.razor\n"),
+    (&["render", "--", "-x"], 4, "missing -x\n"),
+    (&["render", "--", "--"], 4, "missing --\n"),
+    (&["render", ""], 4, "missing \n"),
+    (&["render", "\u{e9}"], 4, "missing \u{e9}\n"),
+];
+
+fn end_so(rt: &impl Abort, alloc: Global, rows: &[(&[&str], u8, &str)]) -> Result<(), Fail> {
+    for (words, status, line) in rows {
+        let ran = outcome(alloc, words, "A.razor", "x")?;
+        ended(rt, &ran, *status, line, line);
+    }
+    Ok(())
+}
 
 #[test]
 fn reads_words(rt: HostRuntime) -> Result<(), Fail> {
-    let alloc = rt.alloc();
-    let usage = "usage: blazor COMMAND ARGUMENTS\n";
-    for (words, status, line) in [
-        ([].as_slice(), 2, usage),
-        (["--help"].as_slice(), 2, usage),
-        (["render"].as_slice(), 2, usage),
-        (["render", "--"].as_slice(), 2, usage),
-        (["render", "-x"].as_slice(), 2, usage),
-        (["render", "-"].as_slice(), 2, usage),
-        (["render", "A.razor", "-x"].as_slice(), 2, usage),
-        (["render", "A.razor", "A.razor"].as_slice(), 2, usage),
-        (["render", "--", "A.razor", "A.razor"].as_slice(), 2, usage),
-        (["render", "--", "A.razor", "--"].as_slice(), 2, usage),
-        (["--", "render", "A.razor"].as_slice(), 2, usage),
-        (["Render", "A.razor"].as_slice(), 2, usage),
-        (["check", "A.razor"].as_slice(), 2, usage),
-        (["render", "A.razor"].as_slice(), 0, "x\n"),
-        (["render", "--", "A.razor"].as_slice(), 0, "x\n"),
-        (["render", "A.razor", "--"].as_slice(), 0, "x\n"),
-        (["render", "B.razor"].as_slice(), 4, "missing B.razor\n"),
-        (["render", "--", "-x"].as_slice(), 4, "missing -x\n"),
-        (["render", "--", "--"].as_slice(), 4, "missing --\n"),
-        (["render", ""].as_slice(), 4, "missing \n"),
-        (["render", "\u{e9}"].as_slice(), 4, "missing \u{e9}\n"),
-    ] {
-        let ran = outcome(alloc, words, "A.razor", "x")?;
-        assert_eq!(rt; ran.status, status, "at {words:?}");
-        assert_eq!(rt; ran.bytes.as_slice(), line.as_bytes(), "at {words:?}");
-    }
-    Ok(())
+    end_so(&rt, rt.alloc(), WORDS)
 }
