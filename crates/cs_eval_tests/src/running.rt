@@ -107,11 +107,10 @@ fn ends(
 #[test]
 fn loops_cost_units(rt: HostRuntime) -> Result<(), Fail> {
     let alloc = rt.alloc();
-    for (limit, left) in [(0, 999_993), (3, 999_978), (199_998, 3)] {
-        ends(&rt, alloc, turns(alloc, limit)?, Ok(Value::Null), left)?;
+    for (limit, left) in &[(0, 999_993), (3, 999_978), (199_998, 3)] {
+        ends(&rt, alloc, turns(alloc, *limit)?, Ok(Value::Null), *left)?;
     }
-    let spent = Err(Fault::FuelSpent);
-    ends(&rt, alloc, turns(alloc, 199_999)?, spent, 0)?;
+    ends(&rt, alloc, turns(alloc, 199_999)?, Err(Fault::FuelSpent), 0)?;
     Ok(())
 }
 
@@ -132,24 +131,36 @@ fn lists_have_places(rt: HostRuntime) -> Result<(), Fail> {
     Ok(())
 }
 
+/// An operator, its operands, and what comes of them.
+const NUMBERS: &[(BinaryOp, i32, i32, Result<i32, Fault>)] = &[
+    (BinaryOp::Divide, i32::MIN, -1, Err(Fault::Overflow)),
+    (BinaryOp::Remainder, i32::MIN, -1, Err(Fault::Overflow)),
+    (BinaryOp::Remainder, 7, 0, Err(Fault::DivideByZero)),
+    (BinaryOp::Divide, -7, 2, Ok(-3)),
+    (BinaryOp::Remainder, -7, 2, Ok(-1)),
+    (BinaryOp::Add, i32::MAX, 1, Ok(i32::MIN)),
+    (BinaryOp::Multiply, i32::MAX, 2, Ok(-2)),
+];
+
+fn computes(
+    rt: &impl Abort,
+    alloc: Global,
+    op: BinaryOp,
+    x: i32,
+    y: i32,
+    want: Result<i32, Fault>,
+) -> Result<(), Oom> {
+    let code = binary(alloc, op, Code::Int(x), Code::Int(y))?;
+    match want {
+        Ok(number) => ends(rt, alloc, code, Ok(Value::Int(number)), 999_997),
+        Err(fault) => ends(rt, alloc, code, Err(fault), 999_997),
+    }
+}
+
 #[test]
 fn numbers_are_computed(rt: HostRuntime) -> Result<(), Fail> {
-    let alloc = rt.alloc();
-    for (op, x, y, want) in [
-        (BinaryOp::Divide, i32::MIN, -1, Err(Fault::Overflow)),
-        (BinaryOp::Remainder, i32::MIN, -1, Err(Fault::Overflow)),
-        (BinaryOp::Remainder, 7, 0, Err(Fault::DivideByZero)),
-        (BinaryOp::Divide, -7, 2, Ok(-3)),
-        (BinaryOp::Remainder, -7, 2, Ok(-1)),
-        (BinaryOp::Add, i32::MAX, 1, Ok(i32::MIN)),
-        (BinaryOp::Multiply, i32::MAX, 2, Ok(-2)),
-    ] {
-        let code = binary(alloc, op, Code::Int(x), Code::Int(y))?;
-        let want = match want {
-            Ok(number) => Ok(Value::Int(number)),
-            Err(fault) => Err(fault),
-        };
-        ends(&rt, alloc, code, want, 999_997)?;
+    for (op, x, y, want) in NUMBERS {
+        computes(&rt, rt.alloc(), *op, *x, *y, *want)?;
     }
     Ok(())
 }
@@ -176,22 +187,25 @@ fn texts_are_joined(rt: HostRuntime) -> Result<(), Fail> {
     Ok(())
 }
 
+const SIZES: u32 = (2 << 14) - 2;
+
 /// Each fault but that of memory. The first call costs one unit, and each of the 99 bodies that it leads to three. The text
 /// costs four units before its loop, 14 turns of four, and what its values of 128 to 1,048,576 bytes cost.
+const CAUSES: &[(Fault, u32)] = &[
+    (Fault::DivideByZero, 999_997),
+    (Fault::Overflow, 999_997),
+    (Fault::NullUse, 999_998),
+    (Fault::IndexOutOfRange, 999_991),
+    (Fault::FuelSpent, 0),
+    (Fault::CallDepth, 1_000_000 - 1 - 99 * 3),
+    (Fault::ValueTooLarge, 999_996 - 14 * 4 - SIZES),
+];
+
 #[test]
 fn faults_have_causes(rt: HostRuntime) -> Result<(), Fail> {
     let alloc = rt.alloc();
-    let sizes = (2 << 14) - 2;
-    for (fault, left) in [
-        (Fault::DivideByZero, 999_997),
-        (Fault::Overflow, 999_997),
-        (Fault::NullUse, 999_998),
-        (Fault::IndexOutOfRange, 999_991),
-        (Fault::FuelSpent, 0),
-        (Fault::CallDepth, 1_000_000 - 1 - 99 * 3),
-        (Fault::ValueTooLarge, 999_996 - 14 * 4 - sizes),
-    ] {
-        ends(&rt, alloc, causing(alloc, fault)?, Err(fault), left)?;
+    for (fault, left) in CAUSES {
+        ends(&rt, alloc, causing(alloc, *fault)?, Err(*fault), *left)?;
     }
     Ok(())
 }
@@ -244,9 +258,9 @@ fn breaks_end_one_loop(rt: HostRuntime) -> Result<(), Fail> {
 #[test]
 fn sections_are_selected(rt: HostRuntime) -> Result<(), Fail> {
     let alloc = rt.alloc();
-    for (value, want) in [(2, 8), (5, 7)] {
-        let code = selecting(alloc, value)?;
-        ends(&rt, alloc, code, Ok(Value::Int(want)), 999_996)?;
+    for (value, want) in &[(2, 8), (5, 7)] {
+        let code = selecting(alloc, *value)?;
+        ends(&rt, alloc, code, Ok(Value::Int(*want)), 999_996)?;
     }
     Ok(())
 }

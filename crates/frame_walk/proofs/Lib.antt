@@ -1,3 +1,5 @@
+pub mod InSlotsLemmas
+pub mod BareSlotLemmas
 pub mod BareLemmas
 pub mod LeadsLemmas
 pub mod KeepingLemmas
@@ -6,3 +8,6 @@ pub mod NamingLemmas
 pub mod KeepLemmas
 pub mod WalkLemmas
 pub mod SizeLemmas
+pub mod PathLemmas
+pub mod FollowLemmas
+pub mod KeptIdLemmas

@@ -1,6 +1,6 @@
 // The ids that go.
-ghost use Rattle.std.specs.Prelude.{◌≡◌, ◌==◌, ◌++◌, IfOk};
-ghost use Rattle.std.specs.List.{flat_map, list_any};
+ghost use Rattle.std.specs.Prelude.{◌≡◌, ◌++◌, IfOk};
+ghost use Rattle.std.specs.List.{flat_map};
 ghost use Rattle.handler_ids.specs.Kept.{Leads};
 ghost use Rattle.frame_walk.specs.Ids.{id_of, ids_in, ids_of, gone_from, Disposed, IsDisposed};
 
@@ -63,17 +63,6 @@ fn with_items(items: &[Item], ids: Items<u64>) -> Result<Items<u64>, AllocError>
     Ok(ids)
 }
 
-fn has(ids: &[u64], id: u64) -> bool
-    ensures { result ≡ list_any (λ other. other == id) ids.now }
-{
-    for other in ids {
-        if *other == id {
-            return true;
-        }
-    }
-    false
-}
-
 /// The ids of the old handlers that no new one has, in document order.
 pub(crate) fn gone_ids(alloc: Global, olds: &[Item], news: &[u64]) -> Result<Vec<u64>, AllocError>
     ensures { IfOk result (λ gone. gone.items ≡ gone_from (ids_of olds.now) news.now) }
@@ -81,7 +70,7 @@ pub(crate) fn gone_ids(alloc: Global, olds: &[Item], news: &[u64]) -> Result<Vec
     let ids = with_items(olds, Items::new(alloc))?;
     let mut gone = Vec::new(alloc);
     for id in ids.as_slice() {
-        if !has(news, *id) {
+        if !news.contains(id) {
             gone.push(*id)?;
         }
     }

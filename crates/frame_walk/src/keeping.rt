@@ -1,5 +1,5 @@
 // Which ids the handlers of a new rendering keep.
-ghost use Rattle.std.specs.Prelude.{◌≡◌, ◌<◌, ◌^◌, ◌↔◌, [], ◌∷◌, ◌++◌, List, IsTrue, length, map, slice_get, MatchOption, IfOk};
+ghost use Rattle.std.specs.Prelude.{◌≡◌, ◌<◌, ◌^◌, ◌↔◌, [], ◌∷◌, ◌++◌, List, IsTrue, map, MatchOption, IfOk};
 ghost use Rattle.frame_core.specs.declared.item_attribute.ItemAttribute.{ItemAttribute};
 ghost use Rattle.frame_core.specs.declared.item_attribute.ItemHandler.{ItemHandler};
 ghost use Rattle.pairing_meaning.specs.Labels.{label_of};
@@ -13,7 +13,7 @@ ghost use Rattle.frame_walk.specs.Keeping.{StaysAt, Stays, KeepsUnder, KeepsIn, 
 use crate::told::told_in;
 use cs_ast::{Value, same};
 use frame_core::{Item, ItemAttribute, ItemHandler, ItemValue};
-use item_pairing::{Slot, pair, slots_in};
+use item_pairing::{Slot, pair, place_at, slots_in};
 use sqlite_items::Items;
 use std::alloc::{AllocError, Global};
 use text_core::Txt;
@@ -163,13 +163,6 @@ fn kept_of(
         Some(old) => kept_in(alloc, old.item, new),
         None => Ok(Items::new(alloc)),
     }
-}
-
-fn place_at(from: &[Option<u32>], place: usize) -> Option<u32>
-    requires { place < length from.now }
-    ensures { slice_get from.now place ≡ Some result }
-{
-    from[place]
 }
 
 /// For each handler of the new items, in document order, the id that it keeps.

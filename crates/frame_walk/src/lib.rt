@@ -9,6 +9,7 @@
 
 mod going;
 mod keeping;
+mod laws;
 mod naming;
 mod numbering;
 mod outcome;
@@ -16,5 +17,6 @@ mod told;
 mod values;
 mod walking;
 
+pub use laws::handlers_have_the_ids_of_their_pairs;
 pub use outcome::Walked;
 pub use walking::walk;

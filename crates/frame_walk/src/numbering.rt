@@ -43,7 +43,7 @@ fn number_one(
     }
 }
 
-fn place_at(kept: &[Option<u64>], place: usize) -> Option<u64>
+fn kept_at(kept: &[Option<u64>], place: usize) -> Option<u64>
     requires { place < length kept.now }
     ensures { slice_get kept.now place ≡ Some result }
 {
@@ -65,7 +65,7 @@ pub(crate) fn number(
 {
     let mut ids = Items::new(alloc);
     for (k, told) in tolds.iter().enumerate() {
-        let id = number_one(alloc, handlers, batch, place_at(kept, k), told)?;
+        let id = number_one(alloc, handlers, batch, kept_at(kept, k), told)?;
         ids.push(id)?;
     }
     Ok(ids)

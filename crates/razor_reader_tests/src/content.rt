@@ -1,6 +1,8 @@
 // What content is read as.
 use crate::support::compare;
 use razor_reader::read;
+use std::alloc::Global;
+use std::process::Abort;
 use std::test::Fail;
 use text_core::Txt;
 
@@ -129,20 +131,31 @@ fn reads_attributes_of_components(rt: HostRuntime) -> Result<(), Fail> {
     )
 }
 
-#[test]
-fn reads_stems(rt: HostRuntime) -> Result<(), Fail> {
-    let alloc = rt.alloc();
+/// The name of the component of an empty file.
+fn stem_of(alloc: Global, name: &str) -> Result<Txt, Fail> {
     let text = Txt::new(alloc);
-    for (name, stem) in [
-        ("a/b/Counter.razor", "Counter"),
-        ("Counter.razor", "Counter"),
-        ("a.b.razor", "a.b"),
-        ("Counter.cs", ""),
-        ("a/.razor", ""),
-        ("razor", ""),
-    ] {
-        let component = read(alloc, &Txt::from_str(alloc, name)?, &text)?;
-        assert_eq!(rt; component.name.as_str(), stem, "{name}");
+    Ok(read(alloc, &Txt::from_str(alloc, name)?, &text)?.name)
+}
+
+fn have_stems(rt: &impl Abort, alloc: Global, rows: &[(&str, &str)]) -> Result<(), Fail> {
+    for (name, stem) in rows {
+        assert_eq!(rt; stem_of(alloc, name)?.as_str(), *stem, "{name}");
     }
     Ok(())
+}
+
+#[test]
+fn reads_stems(rt: HostRuntime) -> Result<(), Fail> {
+    have_stems(
+        &rt,
+        rt.alloc(),
+        &[
+            ("a/b/Counter.razor", "Counter"),
+            ("Counter.razor", "Counter"),
+            ("a.b.razor", "a.b"),
+            ("Counter.cs", ""),
+            ("a/.razor", ""),
+            ("razor", ""),
+        ],
+    )
 }

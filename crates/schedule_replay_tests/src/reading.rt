@@ -31,57 +31,63 @@ fn refuses(rt: &impl Abort, alloc: Global, table: &[Refused]) {
 
 #[test]
 fn what_is_no_schedule(rt: HostRuntime) -> Result<(), Fail> {
-    let table: [Refused; 12] = [
-        ("[]", 0),
-        ("", 0),
-        ("{}", 0),
-        ("{\"steps\":{}}", 0),
-        ("{\"steps\":[],\"window\":0}", 0),
-        ("{\"steps\":[],\"window\":65}", 0),
-        ("{\"steps\":[],\"window\":null}", 0),
-        ("{\"steps\":[],\"retain\":101}", 0),
-        ("{\"steps\":[],\"retain\":1.0}", 0),
-        ("{\"steps\":[],\"version\":2}", 0),
-        ("{\"steps\":[1],\"window\":0}", 0),
-        ("\u{feff}{\"steps\":[]}", 0),
-    ];
-    refuses(&rt, rt.alloc(), &table);
+    refuses(
+        &rt,
+        rt.alloc(),
+        &[
+            ("[]", 0),
+            ("", 0),
+            ("{}", 0),
+            ("{\"steps\":{}}", 0),
+            ("{\"steps\":[],\"window\":0}", 0),
+            ("{\"steps\":[],\"window\":65}", 0),
+            ("{\"steps\":[],\"window\":null}", 0),
+            ("{\"steps\":[],\"retain\":101}", 0),
+            ("{\"steps\":[],\"retain\":1.0}", 0),
+            ("{\"steps\":[],\"version\":2}", 0),
+            ("{\"steps\":[1],\"window\":0}", 0),
+            ("\u{feff}{\"steps\":[]}", 0),
+        ],
+    );
     Ok(())
 }
 
 #[test]
 fn what_is_no_step(rt: HostRuntime) -> Result<(), Fail> {
-    let table: [Refused; 13] = [
-        ("{\"steps\":[{\"do\":\"jump\"}]}", 1),
-        (
-            "{\"steps\":[{\"do\":\"open\",\"tab\":0},{\"do\":\"open\",\"tab\":0}]}",
-            2,
-        ),
-        ("{\"steps\":[{\"do\":\"open\",\"tab\":1}]}", 1),
-        ("{\"steps\":[{\"do\":\"open\"}]}", 1),
-        ("{\"steps\":[{\"do\":\"open\",\"tab\":0,\"more\":1}]}", 1),
-        (
-            "{\"steps\":[{\"do\":\"flow\",\"count\":1},{\"do\":\"flow\",\"count\":0}]}",
-            2,
-        ),
-        ("{\"steps\":[{\"do\":\"flow\",\"count\":1001}]}", 1),
-        ("{\"steps\":[{\"do\":\"flow\",\"count\":-0}]}", 1),
-        ("{\"steps\":[{\"do\":\"flow\",\"count\":1e1}]}", 1),
-        (
-            "{\"steps\":[{\"do\":\"user\",\"tab\":0,\"path\":[4294967296],\"event\":\"onclick\"}]}",
-            1,
-        ),
-        (
-            "{\"steps\":[{\"do\":\"user\",\"tab\":0,\"path\":[1],\"event\":\"onclick\",\"text\":null}]}",
-            1,
-        ),
-        (
-            "{\"steps\":[{\"do\":\"user\",\"tab\":0,\"path\":1,\"event\":\"onclick\"}]}",
-            1,
-        ),
-        ("{\"steps\":[{\"do\":\"deliver\",\"message\":1}]}", 1),
-    ];
-    refuses(&rt, rt.alloc(), &table);
+    refuses(
+        &rt,
+        rt.alloc(),
+        &[
+            ("{\"steps\":[{\"do\":\"jump\"}]}", 1),
+            (
+                "{\"steps\":[{\"do\":\"open\",\"tab\":0},{\"do\":\"open\",\"tab\":0}]}",
+                2,
+            ),
+            ("{\"steps\":[{\"do\":\"open\",\"tab\":1}]}", 1),
+            ("{\"steps\":[{\"do\":\"open\"}]}", 1),
+            ("{\"steps\":[{\"do\":\"open\",\"tab\":0,\"more\":1}]}", 1),
+            (
+                "{\"steps\":[{\"do\":\"flow\",\"count\":1},{\"do\":\"flow\",\"count\":0}]}",
+                2,
+            ),
+            ("{\"steps\":[{\"do\":\"flow\",\"count\":1001}]}", 1),
+            ("{\"steps\":[{\"do\":\"flow\",\"count\":-0}]}", 1),
+            ("{\"steps\":[{\"do\":\"flow\",\"count\":1e1}]}", 1),
+            (
+                "{\"steps\":[{\"do\":\"user\",\"tab\":0,\"path\":[4294967296],\"event\":\"onclick\"}]}",
+                1,
+            ),
+            (
+                "{\"steps\":[{\"do\":\"user\",\"tab\":0,\"path\":[1],\"event\":\"onclick\",\"text\":null}]}",
+                1,
+            ),
+            (
+                "{\"steps\":[{\"do\":\"user\",\"tab\":0,\"path\":1,\"event\":\"onclick\"}]}",
+                1,
+            ),
+            ("{\"steps\":[{\"do\":\"deliver\",\"message\":1}]}", 1),
+        ],
+    );
     Ok(())
 }
 

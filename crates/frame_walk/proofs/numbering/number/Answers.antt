@@ -19,7 +19,7 @@ loop-k-preserved c =
     let long : length c.push.new.self ≡ length c.loop-k.ids + 1 = ap length c.in_ok-push.ensures.ok ∙ length-append c.loop-k.ids (c.in_ok-id.id ∷ []) in
     let so_far = c.loop-k.invariant.1 in (
       subst (λ (is : List ℕ). Leads c.args.handlers.now c.number_one.new.handlers (Numbered c.args.batch (take (c.loop-k.k + 1) c.args.kept.now) (take (c.loop-k.k + 1) (map told_of c.args.tolds.now)) is)) (sym c.in_ok-push.ensures.ok)
-          (numbered-next c.args.handlers.now c.loop-k.handlers c.number_one.new.handlers c.args.batch c.loop-k.k c.in_ok-id.id c.args.kept.now (map told_of c.args.tolds.now) c.loop-k.ids c.place_at.result (told_of told)
-          c.place_at.ensures there c.loop-k.invariant.0 c.in_ok-id.ensures.numbered),
+          (numbered-next c.args.handlers.now c.loop-k.handlers c.number_one.new.handlers c.args.batch c.loop-k.k c.in_ok-id.id c.args.kept.now (map told_of c.args.tolds.now) c.loop-k.ids c.kept_at.result (told_of told)
+          c.kept_at.ensures there c.loop-k.invariant.0 c.in_ok-id.ensures.numbered),
       omega arith,
     )

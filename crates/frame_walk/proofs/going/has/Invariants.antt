@@ -1,6 +1,0 @@
-use Rattle.std.proofs.Common.{◌≡◌, ◌==◌, drop}
-use Rattle.std.specs.List.{list_any}
-use Rattle.frame_walk.proofs.going.has.Given as goal
-
-abbrev pub invariant-loop-other : goal.invariant-loop-other
-invariant-loop-other l = list_any (λ other. other == l.id) l.ids ≡ list_any (λ other. other == l.id) (drop l.other-index l.ids)
