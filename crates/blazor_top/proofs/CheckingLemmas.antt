@@ -1,5 +1,5 @@
 -- Files that are held under names, and what is accepted of them.
-use Rattle.std.proofs.Common.{◌≡◌, ℕ, zero, suc, List, [], ◌∷◌, take, Option, Some, None, refl, sym, ◌∙◌, subst}
+use Rattle.std.proofs.Common.{◌≡◌, ℕ, zero, suc, List, [], ◌∷◌, ◌++◌, take, Option, Some, None, refl, sym, ◌∙◌, subst}
 use Rattle.std.specs.Prelude.{slice_get, map}
 use Rattle.first_click.proofs.OptionLemmas.{some_is}
 use Rattle.schedule_replay.specs.Every.{Every}
@@ -10,13 +10,20 @@ use Rattle.component_files.specs.declared.files.SourceFile.{SourceFile}
 use Rattle.component_files.specs.declared.files.Unreadable.{Unreadable}
 use Rattle.component_files.specs.Files.{FileSpells, IsCause, AllSpell, none, more, FirstFails}
 use Rattle.component_files.proofs.FileLemmas.{same_components, never_fails}
-use Rattle.blazor_top.specs.Reading.{Contents, IsThere, component_file}
+use Rattle.blazor_top.specs.Reading.{Contents, Holds, IsThere, component_file}
 use Rattle.blazor_top.specs.Checking.{AreHeld, no_more, one_more, IsRefusedFor, unread, broken, IsSound}
 
 -- files that are held are there
 pub all_held : (held : Contents) (names : List (List ℕ)) (files : List SourceFile) → AreHeld held names files → Every (IsThere held) (map component_file names)
 all_held held _ _ no_more = tt
 all_held held _ _ (one_more name file names files named holds others) = ((file.bytes.items, holds), all_held held names files others)
+
+-- one file more
+pub held_more : (held : Contents) (names : List (List ℕ)) (files : List SourceFile) (name : List ℕ) (file : SourceFile) → AreHeld held names files → file.name ≡ name
+    → Holds held (component_file name) file.bytes.items → AreHeld held (names ++ name ∷ []) (files ++ file ∷ [])
+held_more held _ _ name file no_more named holds = one_more name file [] [] named holds no_more
+held_more held _ _ name file (one_more first one names files is kept others) named holds =
+    one_more first one (names ++ name ∷ []) (files ++ file ∷ []) is kept (held_more held names files name file others named holds)
 
 -- files of the same names and bytes, in the same order
 data Alike : List SourceFile → List SourceFile → Type 0 where

@@ -18,6 +18,10 @@ pub data AreHeld (held : Contents) : List (List ℕ) → List SourceFile → Typ
   one_more : (name : List ℕ) (file : SourceFile) (names : List (List ℕ)) (files : List SourceFile) → file.name ≡ name → Holds held (component_file name) file.bytes.items
       → AreHeld held names files → AreHeld held (name ∷ names) (file ∷ files)
 
+-- a file of this name and these bytes stands behind others
+abbrev pub IsBehind : List SourceFile → List ℕ → List ℕ → List SourceFile → Type 0
+IsBehind before name bytes files = (file : SourceFile) × (file.name ≡ name) × (file.bytes.items ≡ bytes) × (files ≡ before ++ file ∷ [])
+
 -- the kind and the place by which a file that spells no component is refused
 abbrev pub unread_kind : Unreadable → List ℕ
 unread_kind cause.TooLong = codes "TooLong"

@@ -1,5 +1,5 @@
 // Whether files are a program.
-ghost use Rattle.std.specs.Prelude.{◌≡◌, ◌++◌, codes, length, IfOk, IsTrue, None, OnOk};
+ghost use Rattle.std.specs.Prelude.{◌≡◌, ◌++◌, [], ◌∷◌, codes, length, IfOk, IsTrue, None, OnOk};
 ghost use Rattle.std.specs.Fmt.{decimal};
 ghost use Rattle.text_core.specs.Ascii.{is_ascii};
 ghost use Rattle.razor_rules.specs.Programs.{BreaksFirst};
@@ -146,13 +146,15 @@ fn count_of(
     }
 }
 
-/// The line that says of how many components a program is.
-fn sound_line(alloc: Global, count: usize) -> Result<Txt, Oom>
-    ensures { IfOk result (λ line. line ≡ codes "ok " ++ decimal count) }
+/// The line that says of how many components a program is, as the only one.
+fn sound_lines(alloc: Global, count: usize) -> Result<Vec<Txt>, Oom>
+    ensures { IfOk result (λ lines. lines.items ≡ (codes "ok " ++ decimal count) ∷ []) }
 {
     let mut line = ascii_line(alloc, "ok ")?;
     push_number(alloc, &mut line, count as u64)?;
-    Ok(line)
+    let mut lines = Vec::new(alloc);
+    lines.push(line)?;
+    Ok(lines)
 }
 
 /// The only line about files that are a program.
@@ -162,8 +164,5 @@ pub fn checked(alloc: Global, files: &[SourceFile]) -> Result<Vec<Txt>, Stop>
 {
     let components = components_of(alloc, files)?;
     let count = count_of(alloc, files, components)?;
-    let line = sound_line(alloc, count)?;
-    let mut lines = Vec::new(alloc);
-    lines.push(line)?;
-    Ok(lines)
+    Ok(sound_lines(alloc, count)?)
 }

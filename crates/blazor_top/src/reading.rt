@@ -1,6 +1,6 @@
 // The files that a command names, read in the order of the words.
-ghost use Rattle.std.specs.Prelude.{◌≡◌, ◌≤◌, map, IfOk};
-ghost use Rattle.blazor_top.specs.Checking.{AreHeld};
+ghost use Rattle.std.specs.Prelude.{◌≡◌, ◌≤◌, map, IfOk, OnOk};
+ghost use Rattle.blazor_top.specs.Checking.{AreHeld, IsBehind};
 ghost use Rattle.outside.specs.Faults.{Rose};
 ghost use Rattle.outside.specs.declared.files.FileRead.TheVariants as read;
 ghost use Rattle.schedule_replay.specs.Every.{Every};
@@ -14,7 +14,7 @@ use component_files::SourceFile;
 use outside::{FileRead, Files};
 use sqlite_items::Items;
 use std::alloc::Global;
-use text_core::Txt;
+use text_core::{Oom, Txt};
 
 /// The most bytes that a component's file may have.
 const COMPONENT_LIMIT: u64 = 1_048_576;
@@ -71,6 +71,15 @@ pub fn read_component<F: Files>(alloc: Global, files: &mut F, name: &Txt) -> Res
     read_file(alloc, files, name, COMPONENT_LIMIT)
 }
 
+/// Puts a file of this name and these bytes behind others.
+fn push_source(sources: &mut Vec<SourceFile>, name: &Txt, bytes: Vec<u8>) -> Result<(), Oom>
+    ensures { OnOk result (IsBehind sources.old.items name.now bytes.items sources.new.items) }
+{
+    let name = name.clone()?;
+    sources.push(SourceFile { name, bytes })?;
+    Ok(())
+}
+
 /// Reads the files of a program.
 pub fn read_program<F: Files>(
     alloc: Global,
@@ -86,10 +95,7 @@ pub fn read_program<F: Files>(
     let mut sources = Vec::new(alloc);
     for name in names {
         let bytes = read_component(alloc, files, name)?;
-        sources.push(SourceFile {
-            name: name.clone()?,
-            bytes,
-        })?;
+        push_source(&mut sources, name, bytes)?;
     }
     Ok(sources)
 }
