@@ -1,0 +1,14 @@
+pub mod AlsoLemmas
+pub mod BodyLaws
+pub mod ValueLaws
+pub mod MemberLaws
+pub mod ElementLaws
+pub mod GivenLaws
+pub mod StatementLaws
+pub mod BehindLaws
+pub mod RuleLaws
+pub mod ContentLaws
+pub mod CountedLemmas
+pub mod FileLaws
+pub mod GoingLemmas
+pub mod WordLaws

@@ -1,0 +1,15 @@
+use Rattle.std.proofs.Common.{◌≡◌, drop}
+use Rattle.std.specs.List.{flat_map}
+use Rattle.razor_rules.specs.Findings.{also}
+use Rattle.razor_rules.specs.Tags.{attribute_rules}
+use Rattle.razor_parts.specs.Views.{tagged_view}
+use Rattle.razor_check.proofs.tags.all_attributes.Given as goal
+
+-- what was found so far, and what is found in the rest
+abbrev pub invariant-loop-one : goal.invariant-loop-one
+invariant-loop-one l =
+    record {
+      same : l.g ≡ l.fn.g;
+      does : also l.fn.found.first (flat_map (λ one. attribute_rules (tagged_view l.home.records.now l.around) l.fn.g one one.kind) l.attributes)
+          ≡ also l.found.first (flat_map (λ one. attribute_rules (tagged_view l.home.records.now l.around) l.fn.g one one.kind) (drop l.one-index l.attributes));
+    }

@@ -1,0 +1,9 @@
+pub mod Results
+pub mod Members
+pub mod Elements
+pub mod Given
+pub mod Entering
+pub mod Going
+pub mod Content
+pub mod Files
+pub mod Answers
