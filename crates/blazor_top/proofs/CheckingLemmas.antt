@@ -1,17 +1,30 @@
 -- Files that are held under names, and what is accepted of them.
-use Rattle.std.proofs.Common.{◌≡◌, ℕ, zero, suc, List, [], ◌∷◌, ◌++◌, take, Option, Some, None, refl, sym, ◌∙◌, subst}
+use Rattle.std.proofs.Common.{◌≡◌, ◌≤◌, ◌<◌, ◌+◌, ℕ, zero, suc, List, [], ◌∷◌, ◌++◌, length, take, get_or, Bool, Option, Some, None, refl, sym, ap, ◌∙◌, subst, arith}
 use Rattle.std.specs.Prelude.{slice_get, map}
+use Rattle.std.proofs.lemmas.List.{take_more}
+use Rattle.text_core.specs.declared.place.Place.{Place}
+use Rattle.cs_ast.specs.declared.scope.Effect.{Effect}
+use Rattle.cs_rules.specs.declared.rule.Rule.{Rule}
+use Rattle.razor_rules.specs.declared.finding.Broken.{Broken}
+use Rattle.razor_rules.specs.Findings.{first_of, broken as broken_rule}
+use Rattle.razor_check.specs.declared.fault.ProgramFault.{ProgramFault}
+use Rattle.razor_check.specs.declared.fault.ProgramFault.TheVariants as fault
+use Rattle.razor_check.specs.Answers.{Refuses as RefusesProgram}
+use Rattle.blazor_top.specs.declared.refusal.Stop.{Stop}
+use Rattle.blazor_top.specs.declared.status.Status.TheVariants as status
+use Rattle.blazor_top.specs.Stopping.{OnStop, Refuses, RefusesFor}
+use Rattle.blazor_top.proofs.StopLemmas.{on_refuses}
 use Rattle.first_click.proofs.OptionLemmas.{some_is}
 use Rattle.schedule_replay.specs.Every.{Every}
 use Rattle.razor_ast.specs.declared.component.Component.{Component}
-use Rattle.razor_rules.specs.Programs.{Finding, BreaksFirst}
+use Rattle.razor_rules.specs.Programs.{Finding, BreaksFirst, files_rules, first_in, finding_or}
 use Rattle.razor_rules.proofs.FactLaws.{one_first}
 use Rattle.component_files.specs.declared.files.SourceFile.{SourceFile}
 use Rattle.component_files.specs.declared.files.Unreadable.{Unreadable}
 use Rattle.component_files.specs.Files.{FileSpells, IsCause, AllSpell, none, more, FirstFails}
 use Rattle.component_files.proofs.FileLemmas.{same_components, never_fails}
 use Rattle.blazor_top.specs.Reading.{Contents, Holds, IsThere, component_file}
-use Rattle.blazor_top.specs.Checking.{AreHeld, no_more, one_more, IsRefusedFor, unread, broken, IsSound}
+use Rattle.blazor_top.specs.Checking.{AreHeld, no_more, one_more, IsBehind, IsRefusedFor, unread, broken, IsSound, refusal_line, rule_kind, unread_kind, unread_place}
 
 -- files that are held are there
 pub all_held : (held : Contents) (names : List (List ℕ)) (files : List SourceFile) → AreHeld held names files → Every (IsThere held) (map component_file names)
@@ -91,3 +104,71 @@ pub never_unsound : (file : List ℕ → Option (List ℕ)) (names : List (List 
     → AreHeld (Some file) names files → IsSound files components → AreHeld (Some file) names others → IsRefusedFor others line → ⊥
 never_unsound file names files others components line held sound there refused =
     never_for files components others line (alike file names others files there held) sound refused
+
+-- one file more is read
+pub held_next : (held now : Contents) (names : List (List ℕ)) (i : ℕ) (name : List ℕ) (files new : List SourceFile) (bytes : List ℕ) → i < length names → name ≡ get_or names i name → now ≡ held
+    → AreHeld held (take i names) files → Holds now (component_file name) bytes → IsBehind files name bytes new → AreHeld held (take (i + 1) names) new
+held_next held now names i name files new bytes within is same so_far holds behind =
+    let there : Holds held (component_file name) behind.0.bytes.items = subst (λ (b : List ℕ). Holds held (component_file name) b) (sym behind.2) (subst (λ (h : Contents). Holds h (component_file name) bytes) same holds) in
+    let longer : AreHeld held (take i names ++ name ∷ []) (files ++ behind.0 ∷ []) = held_more held (take i names) files name behind.0 so_far behind.1 there in
+    let next : take i names ++ name ∷ [] ≡ take (i + 1) names = ap (λ (y : List ℕ). take i names ++ y ∷ []) is ∙ sym (take_more names i name within) in
+    subst (λ (ns : List (List ℕ)). AreHeld held ns new) next (subst (λ (fs : List SourceFile). AreHeld held (take i names ++ name ∷ []) fs) (sym behind.3) longer)
+
+-- the first finding stands in one of the files
+bound_or : (at : ℕ) (x : Option Broken) (rest : Option Finding) (n : ℕ) (f : Finding) → (rest ≡ Some f → f.file < at + suc n) → finding_or at x rest ≡ Some f → f.file < at + suc n
+bound_or at None rest n f step e = step e
+bound_or at (Some first) rest n f step e =
+    let one : Finding = record { file = at; first = first } in
+    let same : at ≡ f.file = ap (λ (x : Finding). x.file) (some_is one f e) in
+    omega (arith, same)
+
+first_bound : (at : ℕ) (xs : List (List Broken)) (f : Finding) → first_in at xs ≡ Some f → f.file < at + length xs
+first_bound at [] f e = absurd (no_none f e)
+first_bound at (one ∷ others) f e =
+    bound_or at (first_of one) (first_in (at + 1) others) (length others) f (λ h. let below : f.file < at + 1 + length others = first_bound (at + 1) others f h in omega (arith, below)) e
+
+rules_bound : (components : List Component) (circular : List ℕ → Bool) (position : ℕ) (others : List Component) (effects : List (List Effect)) → length (files_rules components circular position others effects) ≤ length others
+rules_bound components circular position [] effects = omega arith
+rules_bound components circular position (one ∷ others) [] = omega arith
+rules_bound components circular position (one ∷ others) (effect ∷ effects) =
+    let below : length (files_rules components circular (position + 1) others effects) ≤ length others = rules_bound components circular (position + 1) others effects in omega (arith, below)
+
+as_many : (files : List SourceFile) (components : List Component) → AllSpell files components → length files ≡ length components
+as_many _ _ none = refl
+as_many _ _ (more file c files components h others) = ap suc (as_many files components others)
+
+found_within : (files : List SourceFile) (components : List Component) (finding : Finding) → AllSpell files components → BreaksFirst components (Some finding) → finding.file < length files
+found_within files components finding spelled breaks =
+    let rules : List (List Broken) = files_rules components breaks.0.circular 0 components breaks.0.effects in
+    let at : finding.file < 0 + length rules = first_bound 0 rules finding breaks.2 in
+    let few : length rules ≤ length components = rules_bound components breaks.0.circular 0 components breaks.0.effects in
+    let many : length files ≡ length components = as_many files components spelled in
+    omega (arith, at, few, many)
+
+told : (components : List Component) (e : ProgramFault) (file : ℕ) (rule : Rule) (place : Place) → e ≡ fault.Broken file rule place → RefusesProgram components e
+    → BreaksFirst components (Some (record { file = file; first = broken_rule rule place }))
+told components e file rule place is h = subst (RefusesProgram components) is h
+
+-- a program that is refused in a file is refused in one of these
+pub told_within : (files : List SourceFile) (components : List Component) (e : ProgramFault) (file : ℕ) (rule : Rule) (place : Place) → AllSpell files components → e ≡ fault.Broken file rule place
+    → RefusesProgram components e → file < length files
+told_within files components e file rule place spelled is h =
+    found_within files components (record { file = file; first = broken_rule rule place }) spelled (told components e file rule place is h)
+
+-- the refusal for a file that spells no component
+pub refused_unread : (files : List SourceFile) (position : ℕ) (why : Unreadable) (file : SourceFile) (kind : List ℕ) (place : Place) (s : Stop) → FirstFails files position why
+    → slice_get files position ≡ Some file → kind ≡ unread_kind why → place ≡ unread_place why → Refuses s status.Refused (refusal_line kind file.name place) → OnStop s (RefusesFor files)
+refused_unread files position why file kind place s fails there kind_is place_is refuses =
+    let line : refusal_line kind file.name place ≡ refusal_line (unread_kind why) file.name (unread_place why) =
+        ap (λ (k : List ℕ). refusal_line k file.name place) kind_is ∙ ap (λ (p : Place). refusal_line (unread_kind why) file.name p) place_is in
+    on_refuses s status.Refused (refusal_line kind file.name place) (RefusesFor files) refuses (refl, unread position why fails (record { file = file; there = there; is = line }))
+
+-- the refusal for a rule that is broken
+pub refused_broken : (files : List SourceFile) (components : List Component) (e : ProgramFault) (position : ℕ) (rule : Rule) (place : Place) (file : SourceFile) (kind : List ℕ) (s : Stop)
+    → AllSpell files components → e ≡ fault.Broken position rule place → RefusesProgram components e → slice_get files position ≡ Some file → kind ≡ rule_kind rule
+    → Refuses s status.Refused (refusal_line kind file.name place) → OnStop s (RefusesFor files)
+refused_broken files components e position rule place file kind s spelled is h there kind_is refuses =
+    let finding : Finding = record { file = position; first = broken_rule rule place } in
+    let line : refusal_line kind file.name place ≡ refusal_line (rule_kind rule) file.name place = ap (λ (k : List ℕ). refusal_line k file.name place) kind_is in
+    on_refuses s status.Refused (refusal_line kind file.name place) (RefusesFor files) refuses
+    (refl, broken components finding spelled (told components e position rule place is h) (record { file = file; there = there; is = line }))

@@ -99,11 +99,12 @@ module _ (file : List ℕ → Option (List ℕ)) where
   one_file _ name at component one has (first _ others none) = not_none name component has (subst (λ (n : List ℕ). HasNoComponent (Some file) n) (head_is at others name one) none)
   one_file _ name at component one has (second one_name _ others other_component other_has) = two_not_one one_name at others name one
 
-  none_at_all : (at : List ℕ) → RefusedAt (Some file) [] at → ⊥
-  none_at_all at refused = cc
+  none_at_all : (names : List (List ℕ)) (at : List ℕ) → names ≡ [] → RefusedAt (Some file) names at → ⊥
+  none_at_all _ at none (first name others has) = not_empty name others none
+  none_at_all _ at none (second name other others component has) = not_empty name (other ∷ others) none
 
   not_refused : (command : Command) (at : List ℕ) → AreAccepted (Some file) command → RefusedAt (Some file) (program_of command) at → ⊥
-  not_refused (Check names) at accepted refused = none_at_all at refused
+  not_refused (Check names) at accepted refused = none_at_all [] at refl refused
   not_refused (Render name) at accepted refused = one_file (name ∷ []) name at accepted.0 refl accepted.1 refused
   not_refused (Replay name root []) at accepted refused = one_file (root ∷ []) root at accepted.2.0 refl accepted.2.1 refused
   not_refused (Replay name root (other ∷ others)) at accepted refused = not_empty other others accepted.0

@@ -1,5 +1,5 @@
 // Whether files are a program.
-ghost use Rattle.std.specs.Prelude.{◌≡◌, ◌++◌, [], ◌∷◌, codes, length, IfOk, IsTrue, None, OnOk};
+ghost use Rattle.std.specs.Prelude.{◌≡◌, ◌<◌, ◌++◌, [], ◌∷◌, codes, length, slice_get, IfOk, IsTrue, None, OnOk, Some};
 ghost use Rattle.std.specs.Fmt.{decimal};
 ghost use Rattle.text_core.specs.Ascii.{is_ascii};
 ghost use Rattle.razor_rules.specs.Programs.{BreaksFirst};
@@ -107,6 +107,14 @@ fn refused(alloc: Global, kind: &str, file: &SourceFile, place: Place) -> Stop
     }
 }
 
+/// The file at a position.
+fn file_at(files: &[SourceFile], position: usize) -> &SourceFile
+    requires { position < length files.now }
+    ensures { slice_get files.now position ≡ Some result.now }
+{
+    &files[position]
+}
+
 /// The components that the files spell.
 fn components_of(alloc: Global, files: &[SourceFile]) -> Result<Items<Component>, Stop>
     ensures spelled { IfOk result (AllSpell files.now) }
@@ -117,7 +125,7 @@ fn components_of(alloc: Global, files: &[SourceFile]) -> Result<Items<Component>
         Err(FileFault::Unread { file, cause }) => Err(refused(
             alloc,
             unread_kind(cause),
-            &files[file],
+            file_at(files, file),
             unread_place(cause),
         )),
         Err(FileFault::Oom) => Err(Stop::Oom),
@@ -139,7 +147,7 @@ fn count_of(
         Err(ProgramFault::Broken { file, rule, place }) => Err(refused(
             alloc,
             rule_kind(rule),
-            &files[file],
+            file_at(files, file),
             place,
         )),
         Err(ProgramFault::Oom) => Err(Stop::Oom),

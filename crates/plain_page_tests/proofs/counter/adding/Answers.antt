@@ -3,7 +3,7 @@ use Rattle.cs_ast.specs.declared.code.Code.{Code}
 use Rattle.cs_ast.specs.declared.code.Code.TheVariants as v
 use Rattle.cs_ast.specs.declared.operators.StepOp.TheVariants as op
 use Rattle.cs_meaning.specs.FirstForms.{IsStatement, stepped}
-use Rattle.plain_page.proofs.tests.adding.Goals as goal
+use Rattle.plain_page_tests.proofs.counter.adding.Goals as goal
 
 pub returns : goal.returns
 returns c =

@@ -8,7 +8,7 @@ use Rattle.first_click.specs.declared.component.Method.{Method}
 use Rattle.plain_page.specs.Runnable.{IsNumeric, IsRunnable}
 use Rattle.first_click.specs.Weight.{weight}
 use Rattle.plain_page.proofs.FreshLemmas.{weights-cons}
-use Rattle.plain_page.proofs.tests.counter.Goals as goal
+use Rattle.plain_page_tests.proofs.counter.counter.Goals as goal
 
 all_one : {X : Type 0} (P : X → Type 0) (x : X) → P x → All P (x ∷ [])
 all_one P x holds zero d within = holds

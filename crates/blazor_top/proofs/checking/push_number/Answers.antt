@@ -1,0 +1,13 @@
+use Rattle.std.proofs.Common.{rules, ◌≡◌, ◌++◌, ◌∙◌, ap, List, ℕ}
+use Rattle.std.specs.Fmt.{decimal}
+use Rattle.std.specs.Str.{chars}
+use Rattle.std.proofs.lemmas.Fmt.{IsAscii-decimal}
+use Rattle.std.proofs.lemmas.Str.{chars-IsAscii}
+use Rattle.blazor_top.proofs.checking.push_number.Goals as goal
+
+pub returns : goal.returns
+returns c =
+    let fits = c.ranges.number.fits in
+    let digits : c.as_str.result.now ≡ decimal c.args.number = search rules in
+    let read : chars c.as_str.result.now ≡ decimal c.args.number = ap chars digits ∙ chars-IsAscii (decimal c.args.number) (IsAscii-decimal c.args.number fits) in
+    c.in_ok-push_str.ensures.ok ∙ ap (λ (x : List ℕ). c.args.line.now ++ x) read
