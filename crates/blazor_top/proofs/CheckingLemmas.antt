@@ -160,7 +160,7 @@ pub refused_unread : (files : List SourceFile) (position : ℕ) (why : Unreadabl
     → slice_get files position ≡ Some file → kind ≡ unread_kind why → place ≡ unread_place why → Refuses s status.Refused (refusal_line kind file.name place) → OnStop s (RefusesFor files)
 refused_unread files position why file kind place s fails there kind_is place_is refuses =
     let line : refusal_line kind file.name place ≡ refusal_line (unread_kind why) file.name (unread_place why) =
-        ap (λ (k : List ℕ). refusal_line k file.name place) kind_is ∙ ap (λ (p : Place). refusal_line (unread_kind why) file.name p) place_is in
+    ap (λ (k : List ℕ). refusal_line k file.name place) kind_is ∙ ap (λ (p : Place). refusal_line (unread_kind why) file.name p) place_is in
     on_refuses s status.Refused (refusal_line kind file.name place) (RefusesFor files) refuses (refl, unread position why fails (record { file = file; there = there; is = line }))
 
 -- the refusal for a rule that is broken

@@ -20,7 +20,9 @@ returns-in_err-bytes-clause-stopped g c =
 pub loop-name-preserved : goal.loop-name-preserved
 loop-name-preserved g c =
     let earlier = c.loop-name.invariant.1 in
-    let later = c.read_component.ensures.later in
-    (c.read_component.ensures.same ∙ c.loop-name.invariant.0, omega (arith, earlier, later),
-    held_next (g.F.Files.held c.args.files.now) (g.F.Files.held c.loop-name.files) c.args.names.now c.loop-name.name-index c.name-item.result c.loop-name.sources.items c.push_source.new.sources.items
-    c.in_ok-bytes.bytes.items c.loop-name-test.true c.name-item.is c.loop-name.invariant.0 c.loop-name.invariant.2 c.in_ok-bytes.ensures.bytes c.in_ok-push_source.ensures)
+    let later = c.read_component.ensures.later in (
+      c.read_component.ensures.same ∙ c.loop-name.invariant.0,
+      omega (arith, earlier, later),
+      held_next (g.F.Files.held c.args.files.now) (g.F.Files.held c.loop-name.files) c.args.names.now c.loop-name.name-index c.name-item.result c.loop-name.sources.items c.push_source.new.sources.items
+          c.in_ok-bytes.bytes.items c.loop-name-test.true c.name-item.is c.loop-name.invariant.0 c.loop-name.invariant.2 c.in_ok-bytes.ensures.bytes c.in_ok-push_source.ensures,
+    )
