@@ -4,7 +4,7 @@ ghost use Rattle.razor_print.specs.Nodes as spec;
 
 /// What a node of content is to the node right behind it.
 #[derive(Clone, Copy, Debug, PartialEq, Eq)]
-pub(crate) enum Before {
+pub enum Before {
     /// None of these.
     Other,
     /// Literal text.

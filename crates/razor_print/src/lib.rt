@@ -14,4 +14,5 @@ mod quotes;
 mod value_texts;
 mod values;
 
+pub use before::Before;
 pub use component::push_component;

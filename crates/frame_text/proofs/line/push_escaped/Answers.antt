@@ -1,0 +1,14 @@
+use Rattle.std.proofs.Common.{◌≡◌, ◌++◌, sym, ap, ◌∙◌}
+use Rattle.std.proofs.lemmas.List.{map-id}
+use Rattle.std.proofs.lemmas.Iterator.{YieldsList-from_chars}
+use Rattle.std.proofs.lemmas.Iterator.Consumers.{YieldsList-end}
+use Rattle.frame_text.specs.Lines.{escaped}
+use Rattle.frame_text.proofs.line.push_escaped.Goals as goal
+
+pub returns : goal.returns
+returns c =
+    let all : c.loop-character.yielded ≡ c.args.text.now =
+    sym (map-id c.loop-character.yielded)
+    ∙ (YieldsList-end (YieldsList-from_chars c.as_str.result.now c.as_str.utf8 cc) c.loop-character.yielded _ c.loop-character.yielded_by _ _ c.in-None.is c.next.ensures.steps).0
+    ∙ c.as_str.ensures.characters in
+    c.loop-character.invariant ∙ ap (λ text. c.args.line.now ++ escaped text) all

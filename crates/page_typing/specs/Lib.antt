@@ -1,0 +1,11 @@
+pub mod Drawings
+pub mod Acts
+pub mod Templates
+pub mod Narrowing
+pub mod TemplateScopes
+pub mod Formed
+pub mod Resolving
+pub mod Homes
+pub mod Numbering
+pub mod Pages
+pub mod Handlers

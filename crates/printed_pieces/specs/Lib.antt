@@ -1,0 +1,9 @@
+pub mod Names
+pub mod Places
+pub mod Meant
+pub mod Cut
+pub mod Written
+pub mod Printable
+pub mod PrintableNodes
+pub mod Answers
+pub mod Sound
