@@ -37,7 +37,7 @@ fn with_text(
     let Some(said) = text else {
         return Ok(None);
     };
-    begun(bytes_in(name).saturating_add(bytes_in(&said)), progress)?;
+    begun(bytes_in(name) + bytes_in(&said), progress)?;
     Ok(Some(ItemAttribute {
         number,
         name: name.clone()?,
@@ -245,7 +245,7 @@ fn attribute<O: Owners>(
 }
 
 /// What attributes make, one after another.
-#[tactic(auto, using(crate::proofs::SequenceLemmas::worn_behind, crate::proofs::SequenceLemmas::worn_end), unfolding(drawing_meaning::specs::Attributes::all_worn))]
+#[tactic(auto, using(crate::proofs::SequenceLemmas::worn_start, crate::proofs::SequenceLemmas::worn_behind, crate::proofs::SequenceLemmas::worn_end), unfolding(drawing_meaning::specs::Attributes::all_worn))]
 pub(crate) fn all_worn<O: Owners>(
     around: &Around<'_>,
     parts: &[AttributePart],

@@ -27,7 +27,7 @@ pub(crate) fn ended(out: Output) -> Result<Items<Item>, Exit>
 
 /// What operations make, one after another, up to a `break`.
 #[cycle(drawing)]
-#[tactic(auto, using(crate::proofs::SequenceLemmas::order_behind, crate::proofs::SequenceLemmas::order_broke, crate::proofs::SequenceLemmas::order_end), unfolding(drawing_meaning::specs::Acts::in_order))]
+#[tactic(auto, using(crate::proofs::SequenceLemmas::order_start, crate::proofs::SequenceLemmas::order_more, crate::proofs::SequenceLemmas::order_broke, crate::proofs::SequenceLemmas::order_end), unfolding(drawing_meaning::specs::Acts::in_order))]
 fn in_order<O: Owners>(
     around: &Around<'_>,
     operations: &[Operation],

@@ -1,5 +1,5 @@
 // Items that are begun. A rendering has only so many items and bytes, and none of its items lies too deep.
-ghost use Rattle.std.specs.Prelude.{◌≡◌, ◌+◌, ◌<◌, ◌≤◌, IfOk};
+ghost use Rattle.std.specs.Prelude.{◌≡◌, ◌+◌, ◌<◌, ◌≤◌, ◌^◌, IfOk};
 ghost use Rattle.cs_meaning.specs.State.{Fields};
 ghost use Rattle.drawing_meaning.specs.Drawing as spec;
 ghost use Rattle.frame_run.specs.Agrees.{Agrees, AgreesAs, reached};
@@ -17,7 +17,8 @@ const DEEPEST: u32 = 1000;
 
 /// How many bytes a text has.
 pub(crate) fn bytes_in(text: &Txt) -> u64
-    ensures { result ≡ spec.bytes_of text.now }
+    ensures count { result ≡ spec.bytes_of text.now }
+    ensures few { result < 2 ^ 63 }
 {
     text.as_str().len() as u64
 }

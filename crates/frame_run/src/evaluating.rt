@@ -21,6 +21,7 @@ use sqlite_items::{Items, at as item_at};
 use std::alloc::{AllocError, Global};
 
 /// What code gave, as what a part of a template gives.
+#[tactic(auto, using(crate::proofs::FaultLemmas::faulted))]
 fn given(outcome: Result<Option<Value>, Fault>) -> Result<Value, Exit>
     ensures { (locals : List Value) (left : ℕ) (means : Outcome Value) (d : Drawing) → TriesValue outcome locals left means
         → Agrees result (with_state (state locals d.state.fields d.state.receivers left) d) (of_outcome means d) }

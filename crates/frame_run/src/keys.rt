@@ -32,6 +32,7 @@ fn if_key(number: u32, value: &Value) -> Option<Key<'_>>
 }
 
 /// The key of an item, if it has one.
+#[tactic(auto, using(crate::proofs::KeyLemmas::element_key, crate::proofs::KeyLemmas::text_key, crate::proofs::KeyLemmas::markup_key, crate::proofs::KeyLemmas::component_key, crate::proofs::KeyLemmas::region_key))]
 fn key_of(item: &Item) -> Option<Key<'_>>
     ensures { option_map key_seen result ≡ spec.key_of item.now }
 {
@@ -60,6 +61,7 @@ fn is_key_of(key: &Key<'_>, item: &Item) -> bool
 }
 
 /// Whether the key of the first item is also that of one of the others.
+#[tactic(auto, using(crate::proofs::KeyLemmas::none_clashes))]
 fn is_repeated(item: &Item, others: &[Item]) -> bool
     ensures { result ≡ list_any (λ other. clash (spec.key_of item.now) (spec.key_of other)) others.now }
 {
@@ -75,6 +77,7 @@ fn is_repeated(item: &Item, others: &[Item]) -> bool
 }
 
 /// Whether no two items have one number and one key.
+#[tactic(auto, using(crate::proofs::KeyLemmas::distinct_more, crate::proofs::KeyLemmas::distinct_no_more))]
 fn are_distinct(items: &[Item]) -> bool
     ensures { result ≡ spec.are_distinct (filter_map spec.key_of items.now) }
 {

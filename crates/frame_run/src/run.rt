@@ -33,6 +33,7 @@ fn items_of<O: Owners>(
 }
 
 /// The items that a rendering makes, or its fault; nothing where it is stuck.
+#[tactic(auto, using(crate::proofs::FaultLemmas::any_fault))]
 pub fn try_frames<O: Owners>(
     alloc: Global,
     program: &Compiled,

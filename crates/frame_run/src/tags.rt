@@ -165,7 +165,7 @@ fn given<O: Owners>(
 }
 
 /// What the parts of a tag give, one after another.
-#[tactic(auto, using(crate::proofs::SequenceLemmas::given_behind, crate::proofs::SequenceLemmas::given_end), unfolding(drawing_meaning::specs::Tags::all_given))]
+#[tactic(auto, using(crate::proofs::SequenceLemmas::given_start, crate::proofs::SequenceLemmas::given_behind, crate::proofs::SequenceLemmas::given_end), unfolding(drawing_meaning::specs::Tags::all_given))]
 fn all_given<O: Owners>(
     around: &Around<'_>,
     parts: &[TagPart],

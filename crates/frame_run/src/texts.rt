@@ -89,7 +89,7 @@ fn said<O: Owners>(
 }
 
 /// What parts show, one behind another.
-#[tactic(auto, using(crate::proofs::SequenceLemmas::said_behind, crate::proofs::SequenceLemmas::said_end), unfolding(drawing_meaning::specs::Texts::all_said))]
+#[tactic(auto, using(crate::proofs::SequenceLemmas::said_start, crate::proofs::SequenceLemmas::said_behind, crate::proofs::SequenceLemmas::said_end), unfolding(drawing_meaning::specs::Texts::all_said))]
 pub(crate) fn all_said<O: Owners>(
     around: &Around<'_>,
     parts: &[TextPart],

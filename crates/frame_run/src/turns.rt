@@ -99,7 +99,7 @@ fn turn<O: Owners>(
 
 /// Turns of a loop, each of which pays a unit at least.
 #[cycle(drawing)]
-#[tactic(auto, using(crate::proofs::TurnLemmas::turns_more, crate::proofs::TurnLemmas::turns_end, crate::proofs::TurnLemmas::turns_none))]
+#[tactic(auto, using(crate::proofs::TurnLemmas::items_start, crate::proofs::TurnLemmas::item_behind, crate::proofs::TurnLemmas::items_end, crate::proofs::TurnLemmas::turns_some, crate::proofs::TurnLemmas::turns_none))]
 fn repeat<O: Owners>(
     around: &Around<'_>,
     number: u32,
@@ -239,7 +239,7 @@ fn turn_over<O: Owners>(
 
 /// A turn for each value.
 #[cycle(drawing)]
-#[tactic(auto, using(crate::proofs::TurnLemmas::each_behind), unfolding(drawing_meaning::specs::Turns::each_turn))]
+#[tactic(auto, using(crate::proofs::TurnLemmas::items_start, crate::proofs::TurnLemmas::item_behind, crate::proofs::TurnLemmas::items_end), unfolding(drawing_meaning::specs::Turns::each_turn))]
 fn each<O: Owners>(
     around: &Around<'_>,
     values: &[Value],
