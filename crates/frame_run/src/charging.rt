@@ -1,6 +1,5 @@
 // Units that are paid, and what new texts cost.
-ghost use Rattle.std.specs.Prelude.{◌≡◌, ◌+◌, ◌<◌, ◌≤◌, ◌-◌, ◌^◌, min, length, encode_utf8_all, IfOk};
-ghost use Rattle.cs_ast.specs.declared.value.Value.TheVariants as v;
+ghost use Rattle.std.specs.Prelude.{◌≡◌, ◌<◌, ◌≤◌, IfOk};
 ghost use Rattle.cs_meaning.specs.State.{Fields};
 ghost use Rattle.cs_meaning.specs.NewValues.{made};
 ghost use Rattle.drawing_meaning.specs.Drawing as spec;
