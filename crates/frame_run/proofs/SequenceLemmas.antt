@@ -31,13 +31,13 @@ behind_both front out stuck = refl
 -- an output that no `break` leads out of
 pub order_more : (front : List Item) (out : Output) (next : Draws Output) (d : Drawing) → out.broke ≡ false → in_front_of front (unless_broke out next d) ≡ in_front_of (front ++ out.items) (next d)
 order_more front out next d goes_on =
-    ap (λ (b : Bool). in_front_of front ((cond b (λ (e : Drawing). gives out e) (λ (e : Drawing). and_then (next e) (λ other f. gives (behind out.items other) f))) d)) goes_on
+    ap (λ (b : Bool). in_front_of front ((cond {A = Draws Output} b (λ (e : Drawing). gives out e) (λ (e : Drawing). and_then (next e) (λ other f. gives (behind out.items other) f))) d)) goes_on
     ∙ behind_both front out (next d)
 
 -- one that a `break` leads out of
 pub order_broke : (front : List Item) (out : Output) (next : Draws Output) (d : Drawing) → out.broke ≡ true → in_front_of front (unless_broke out next d) ≡ gives (record { items = front ++ out.items; broke = true }) d
 order_broke front out next d broke =
-    ap (λ (b : Bool). in_front_of front ((cond b (λ (e : Drawing). gives out e) (λ (e : Drawing). and_then (next e) (λ other f. gives (behind out.items other) f))) d)) broke
+    ap (λ (b : Bool). in_front_of front ((cond {A = Draws Output} b (λ (e : Drawing). gives out e) (λ (e : Drawing). and_then (next e) (λ other f. gives (behind out.items other) f))) d)) broke
     ∙ ap (λ (b : Bool). gives (record { items = front ++ out.items; broke = b }) d) broke
 
 pub order_end : (front : List Item) (d : Drawing) → in_front_of front (gives (output []) d) ≡ gives (output front) d

@@ -128,3 +128,29 @@ contents::show-returns-clause-means g t c =
     show_within parameters around.program.now.bodies templates around.calls c.args.fragment.who c.args.fragment.place c.args.fragment.captures around.depth before (omega (arith, c.if-around-ge-DEEPEST.false))
     ∙ ap (λ (o : Option (List Operation)). template_items parameters around.program.now.bodies templates (option_map (map act_of) o) c.args.fragment.captures (stage_at parameters around.program.now.bodies templates c.args.fragment.who (around.calls + 1) around.depth) before) (sym c.in-Some.ensures) in
     rw form (search rules)
+
+pub contents::show-returns-in_err-items-clause-means : goal.contents::show-returns-in_err-items-clause-means
+contents::show-returns-in_err-items-clause-means g t c =
+    let around = c.args.around.now in
+    let before = reached c.args.progress.now (g.O.Owners.fields c.args.owners.now) in
+    let parameters = g.O.Owners.parameters c.args.owners.now in
+    let templates = templates_in around.program.now.fragments in
+    let form =
+    show_within parameters around.program.now.bodies templates around.calls c.args.fragment.who c.args.fragment.place c.args.fragment.captures around.depth before (omega (arith, c.if-around-ge-DEEPEST.false))
+    ∙ ap (λ (o : Option (List Operation)). template_items parameters around.program.now.bodies templates (option_map (map act_of) o) c.args.fragment.captures (stage_at parameters around.program.now.bodies templates c.args.fragment.who (around.calls + 1) around.depth) before) (sym c.in-Some.ensures) in
+    rw form (search rules)
+
+pub turns::for_each-returns-in_err-values-clause-means : goal.turns::for_each-returns-in_err-values-clause-means
+turns::for_each-returns-in_err-values-clause-means g t c = ?
+
+pub turns::for_each-returns-in_err-items-clause-means : goal.turns::for_each-returns-in_err-items-clause-means
+turns::for_each-returns-in_err-items-clause-means g t c = ?
+
+pub turns::for_each-returns-clause-means : goal.turns::for_each-returns-clause-means
+turns::for_each-returns-clause-means g t c = ?
+
+pub turns::repeat-returns-then-not-branch-clause-means : goal.turns::repeat-returns-then-not-branch-clause-means
+turns::repeat-returns-then-not-branch-clause-means g t c = ?
+
+pub turns::repeat-loop-most-preserved : goal.turns::repeat-loop-most-preserved
+turns::repeat-loop-most-preserved g t c = ?

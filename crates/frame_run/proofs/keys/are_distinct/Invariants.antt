@@ -4,5 +4,5 @@ use Rattle.drawing_meaning.specs.Keys as spec
 use Rattle.frame_run.proofs.keys.are_distinct.Given as goal
 
 -- none so far is repeated behind it
-abbrev pub invariant-loop-item : goal.invariant-loop-item
-invariant-loop-item l = spec.are_distinct (filter_map spec.key_of l.items) ≡ spec.are_distinct (filter_map spec.key_of (drop l.i l.items))
+abbrev pub invariant-loop-i : goal.invariant-loop-i
+invariant-loop-i l = spec.are_distinct (filter_map spec.key_of l.items) ≡ spec.are_distinct (filter_map spec.key_of (drop l.i l.items))
