@@ -43,3 +43,23 @@ module _ (test : Draws Bool) (one : Draws Item) (step : Draws Value) (d : Drawin
   unfolding turns
   turns_some zero h = absurd (omega arith)
   turns_some (suc most) h = let e : most ≡ suc most - 1 = omega arith in ap goes e
+
+module _ (test : Draws Bool) (one : Draws Item) (step : Draws Value) (front : List Item) (most : ℕ) (some : 0 < most) where
+  abbrev rest : Draws (List Item)
+  rest = turns (most - 1) test one step
+
+  -- the last test
+  pub turn_last : (d d1 : Drawing) → test d ≡ gives false d1 → items_before front (turns most test one step d) ≡ gives front d1
+  turn_last d d1 tested =
+      ap (items_before front) (turns_some test one step d most some)
+      ∙ ap (λ (r : Drawn Bool). items_before front (and_then r (λ goes_on e. (cond {A = Draws (List Item)} goes_on (turn_and_more one step rest) (λ (f : Drawing). gives [] f)) e))) tested
+      ∙ items_end front d1
+
+  -- one turn more
+  pub turn_more : (d d1 d2 d3 : Drawing) (first : Item) (x : Value) → test d ≡ gives true d1 → one d1 ≡ gives first d2 → step d2 ≡ gives x d3 → items_before front (turns most test one step d) ≡ items_before (front ++ first ∷ []) (rest d3)
+  turn_more d d1 d2 d3 first x tested made stepped =
+      ap (items_before front) (turns_some test one step d most some)
+      ∙ ap (λ (r : Drawn Bool). items_before front (and_then r (λ goes_on e. (cond {A = Draws (List Item)} goes_on (turn_and_more one step rest) (λ (f : Drawing). gives [] f)) e))) tested
+      ∙ ap (λ (r : Drawn Item). items_before front (and_then r (λ it e. and_then (step e) (λ y f. and_then (rest f) (λ others k. gives (it ∷ others) k))))) made
+      ∙ ap (λ (r : Drawn Value). items_before front (and_then r (λ y f. and_then (rest f) (λ others k. gives (first ∷ others) k)))) stepped
+      ∙ item_behind front first (rest d3)

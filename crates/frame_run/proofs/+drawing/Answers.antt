@@ -1,13 +1,18 @@
-use Rattle.std.proofs.Common.{◌≡◌, ℕ, ◌+◌, ◌-◌, List, rules, refl, sym, ap, ◌∙◌, arith, map}
+use Rattle.std.proofs.Common.{◌≡◌, ℕ, ◌+◌, ◌-◌, ◌<◌, List, [], ◌∷◌, ◌++◌, true, false, rules, refl, sym, ap, ◌∙◌, arith, map}
+use Rattle.std.specs.Option.{option_copied}
 use Rattle.std.specs.Prelude.{Option, option_map}
 use Rattle.drawing_meaning.specs.Acts.{Act}
+use Rattle.drawing_meaning.specs.Drawing.{gives}
 use Rattle.drawing_meaning.specs.Shows.{template_items, stage_at}
+use Rattle.drawing_meaning.specs.Turns.{turn, turns, test_or_true, code_or_nothing}
 use Rattle.drawing_meaning.proofs.ShowLaws.{deep_show, show_within}
+use Rattle.frame_core.specs.declared.item.Item.{Item}
 use Rattle.frame_program.specs.declared.operation.Operation.{Operation}
 use Rattle.frame_program.specs.Frames.{templates_in}
 use Rattle.frame_program.specs.Operations.{act_of}
 use Rattle.frame_program.proofs.OperationLaws.{element_law, child_law, text_law, raw_law, content_law, statement_law, break_law, block_law, if_law, switch_law, for_law, for_each_law, while_law}
 use Rattle.frame_run.specs.Agrees.{stage_in, reached}
+use Rattle.frame_run.proofs.TurnLemmas.{items_before, turn_last, turn_more}
 use Rattle.frame_run.proofs.+drawing.Goals as goal
 
 -- each form of operation
@@ -140,17 +145,55 @@ contents::show-returns-in_err-items-clause-means g t c =
     ∙ ap (λ (o : Option (List Operation)). template_items parameters around.program.now.bodies templates (option_map (map act_of) o) c.args.fragment.captures (stage_at parameters around.program.now.bodies templates c.args.fragment.who (around.calls + 1) around.depth) before) (sym c.in-Some.ensures) in
     rw form (search rules)
 
+-- a list that is null, and others
 pub turns::for_each-returns-in_err-values-clause-means : goal.turns::for_each-returns-in_err-values-clause-means
-turns::for_each-returns-in_err-values-clause-means g t c = ?
+turns::for_each-returns-in_err-values-clause-means g t c =
+    let listed = c.in_err-values.ensures (reached c.value_of.new.progress (g.O.Owners.fields c.args.owners.now)) in
+    search rules
 
 pub turns::for_each-returns-in_err-items-clause-means : goal.turns::for_each-returns-in_err-items-clause-means
-turns::for_each-returns-in_err-items-clause-means g t c = ?
+turns::for_each-returns-in_err-items-clause-means g t c =
+    let listed = c.in_ok-values.ensures (reached c.value_of.new.progress (g.O.Owners.fields c.args.owners.now)) in
+    search rules
 
 pub turns::for_each-returns-clause-means : goal.turns::for_each-returns-clause-means
-turns::for_each-returns-clause-means g t c = ?
+turns::for_each-returns-clause-means g t c =
+    let listed = c.in_ok-values.ensures (reached c.value_of.new.progress (g.O.Owners.fields c.args.owners.now)) in
+    search rules
 
+-- the last test of a loop, and one turn more
 pub turns::repeat-returns-then-not-branch-clause-means : goal.turns::repeat-returns-then-not-branch-clause-means
-turns::repeat-returns-then-not-branch-clause-means g t c = ?
+turns::repeat-returns-then-not-branch-clause-means g t c =
+    let stage = stage_in c.args.around.now (g.O.Owners.parameters c.args.owners.now) in
+    let fields = g.O.Owners.fields c.args.owners.now in
+    let test = test_or_true (option_copied c.args.test) stage in
+    let one = turn c.args.number c.args.keyed (map act_of c.args.body.now) stage in
+    let step = code_or_nothing (option_copied c.args.step) stage in
+    let before = reached c.loop-most.progress fields in
+    let behind_test = reached c.tested.new.progress fields in
+    let some : 0 < c.loop-most.most = omega arith in
+    let tested : test before ≡ gives false behind_test = search rules in
+    c.loop-most.invariant.same ∙ turn_last test one step c.loop-most.items c.loop-most.most some before behind_test tested
 
 pub turns::repeat-loop-most-preserved : goal.turns::repeat-loop-most-preserved
-turns::repeat-loop-most-preserved g t c = ?
+turns::repeat-loop-most-preserved g t c =
+    let stage = stage_in c.args.around.now (g.O.Owners.parameters c.args.owners.now) in
+    let fields = g.O.Owners.fields c.args.owners.now in
+    let test = test_or_true (option_copied c.args.test) stage in
+    let one = turn c.args.number c.args.keyed (map act_of c.args.body.now) stage in
+    let step = code_or_nothing (option_copied c.args.step) stage in
+    let before = reached c.loop-most.progress fields in
+    let behind_test = reached c.tested.new.progress fields in
+    let some : 0 < c.loop-most.most = omega arith in
+    let behind_turn = reached c.turn.new.progress fields in
+    let behind_step = reached c.optional.new.progress fields in
+    let tested : test before ≡ gives true behind_test = search rules in
+    let made : one behind_test ≡ gives c.in_ok-turn.field-0 behind_turn = search rules in
+    let stepped : step behind_turn ≡ gives c.in_ok-optional.field-0 behind_step = search rules in
+    let pushed : c.push.new.self ≡ c.loop-most.items ++ c.in_ok-turn.field-0 ∷ [] = search rules in
+    record {
+      less = omega arith;
+      same = c.loop-most.invariant.same
+    ∙ turn_more test one step c.loop-most.items c.loop-most.most some before behind_test behind_turn behind_step c.in_ok-turn.field-0 c.in_ok-optional.field-0 tested made stepped
+    ∙ ap (λ (l : List Item). items_before l (turns (c.loop-most.most - 1) test one step behind_step)) (sym pushed);
+    }

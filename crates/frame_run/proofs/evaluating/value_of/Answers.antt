@@ -6,4 +6,4 @@ pub returns-clause-means : goal.returns-clause-means
 returns-clause-means g c =
     let stage = stage_in c.args.around.now (g.O.Owners.parameters c.args.owners.now) in
     let before = reached c.args.progress.now (g.O.Owners.fields c.args.owners.now) in
-    c.given.ensures c.try_eval.new.locals.values.items c.try_eval.new.fuel.left (body_meaning stage.around c.args.code.now before.state) before c.try_eval.ensures.means
+    c.given.ensures c.try_eval-outcome.new.locals.values.items c.try_eval-outcome.new.fuel.left (body_meaning stage.around c.args.code.now before.state) before c.try_eval-outcome.ensures.means
