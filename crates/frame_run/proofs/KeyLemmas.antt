@@ -11,7 +11,7 @@ use Rattle.frame_core.specs.declared.item.ItemParameter.{ItemParameter}
 use Rattle.frame_core.specs.declared.item_attribute.ItemAttribute.{ItemAttribute}
 use Rattle.frame_core.specs.declared.made.Made.{Made}
 use Rattle.drawing_meaning.specs.Keys.{if_key, key_level, key_of, same_key, are_distinct}
-use Rattle.frame_run.specs.Clashes.{clash}
+use Rattle.frame_run.specs.Clashes.{clash, repeats}
 
 opened : (x : Item) (y : Item-F Item) → roll-Item y ≡ x → key_of x ≡ key_level y
 opened x y e = ap (λ (it : Item). key_of it) (sym e) ∙ ap key_level (out-roll-Item y)
@@ -53,9 +53,11 @@ distinct_step one others = by (key_of one)
     by (Some key) = ap (λ (b : Bool). not b && are_distinct (filter_map key_of others)) (key_among key others)
 
 -- an item in front of others, of which none has its key
-pub distinct_more : (one : Item) (others : List Item) → list_any (λ other. clash (key_of one) (key_of other)) others ≡ false → are_distinct (filter_map key_of (one ∷ others)) ≡ are_distinct (filter_map key_of others)
+pub distinct_more : (one : Item) (others : List Item) → repeats one others ≡ false → are_distinct (filter_map key_of (one ∷ others)) ≡ are_distinct (filter_map key_of others)
+unfolding repeats
 distinct_more one others h = distinct_step one others ∙ ap (λ (b : Bool). not b && are_distinct (filter_map key_of others)) h
 
 -- or of which one has it
-pub distinct_no_more : (one : Item) (others : List Item) → list_any (λ other. clash (key_of one) (key_of other)) others ≡ true → are_distinct (filter_map key_of (one ∷ others)) ≡ false
+pub distinct_no_more : (one : Item) (others : List Item) → repeats one others ≡ true → are_distinct (filter_map key_of (one ∷ others)) ≡ false
+unfolding repeats
 distinct_no_more one others h = distinct_step one others ∙ ap (λ (b : Bool). not b && are_distinct (filter_map key_of others)) h

@@ -1,10 +1,10 @@
 // Keys among siblings.
 ghost use Rattle.std.specs.Prelude.{◌≡◌, option_map, IfOk};
-ghost use Rattle.std.specs.List.{filter_map, list_any};
+ghost use Rattle.std.specs.List.{filter_map};
 ghost use Rattle.drawing_meaning.specs.Drawing.{Drawing};
 ghost use Rattle.drawing_meaning.specs.Keys as spec;
 ghost use Rattle.frame_run.specs.Agrees.{Agrees};
-ghost use Rattle.frame_run.specs.Clashes.{clash, key_seen};
+ghost use Rattle.frame_run.specs.Clashes.{clash, key_seen, repeats};
 
 use crate::copying::copy;
 use crate::exit::Exit;
@@ -61,9 +61,9 @@ fn is_key_of(key: &Key<'_>, item: &Item) -> bool
 }
 
 /// Whether the key of the first item is also that of one of the others.
-#[tactic(auto, using(crate::proofs::KeyLemmas::none_clashes))]
+#[tactic(auto, unfolding(crate::specs::Clashes::repeats))]
 fn is_repeated(item: &Item, others: &[Item]) -> bool
-    ensures { result ≡ list_any (λ other. clash (spec.key_of item.now) (spec.key_of other)) others.now }
+    ensures { result ≡ repeats item.now others.now }
 {
     let Some(key) = key_of(item) else {
         return false;

@@ -4,7 +4,7 @@ use Rattle.std.specs.Prelude.{Option, option_map}
 use Rattle.drawing_meaning.specs.Acts.{Act}
 use Rattle.drawing_meaning.specs.Drawing.{gives}
 use Rattle.drawing_meaning.specs.Shows.{template_items, stage_at}
-use Rattle.drawing_meaning.specs.Turns.{turn, turns, test_or_true, code_or_nothing}
+use Rattle.drawing_meaning.specs.Turns.{for_each, turn, turns, test_or_true, code_or_nothing}
 use Rattle.drawing_meaning.proofs.ShowLaws.{deep_show, show_within}
 use Rattle.frame_core.specs.declared.item.Item.{Item}
 use Rattle.frame_program.specs.declared.operation.Operation.{Operation}
@@ -147,16 +147,19 @@ contents::show-returns-in_err-items-clause-means g t c =
 
 -- a list that is null, and others
 pub turns::for_each-returns-in_err-values-clause-means : goal.turns::for_each-returns-in_err-values-clause-means
+unfolding for_each
 turns::for_each-returns-in_err-values-clause-means g t c =
     let listed = c.in_err-values.ensures (reached c.value_of.new.progress (g.O.Owners.fields c.args.owners.now)) in
     search rules
 
 pub turns::for_each-returns-in_err-items-clause-means : goal.turns::for_each-returns-in_err-items-clause-means
+unfolding for_each
 turns::for_each-returns-in_err-items-clause-means g t c =
     let listed = c.in_ok-values.ensures (reached c.value_of.new.progress (g.O.Owners.fields c.args.owners.now)) in
     search rules
 
 pub turns::for_each-returns-clause-means : goal.turns::for_each-returns-clause-means
+unfolding for_each
 turns::for_each-returns-clause-means g t c =
     let listed = c.in_ok-values.ensures (reached c.value_of.new.progress (g.O.Owners.fields c.args.owners.now)) in
     search rules
@@ -194,6 +197,6 @@ turns::repeat-loop-most-preserved g t c =
     record {
       less = omega arith;
       same = c.loop-most.invariant.same
-    ∙ turn_more test one step c.loop-most.items c.loop-most.most some before behind_test behind_turn behind_step c.in_ok-turn.field-0 c.in_ok-optional.field-0 tested made stepped
-    ∙ ap (λ (l : List Item). items_before l (turns (c.loop-most.most - 1) test one step behind_step)) (sym pushed);
+          ∙ turn_more test one step c.loop-most.items c.loop-most.most some before behind_test behind_turn behind_step c.in_ok-turn.field-0 c.in_ok-optional.field-0 tested made stepped
+          ∙ ap (λ (l : List Item). items_before l (turns (c.loop-most.most - 1) test one step behind_step)) (sym pushed);
     }
