@@ -1,5 +1,5 @@
 // What the attributes of an element make.
-ghost use Rattle.std.specs.Prelude.{◌≡◌, ◌≤◌, ℕ, [], ◌∷◌, map, IfOk};
+ghost use Rattle.std.specs.Prelude.{◌≡◌, ◌≤◌, map, IfOk};
 ghost use Rattle.std.specs.Option.{option_to_list};
 ghost use Rattle.cs_ast.specs.declared.value.Value.TheVariants.{Null};
 ghost use Rattle.cs_meaning.specs.State.{Fields};
@@ -163,16 +163,15 @@ fn event<O: Owners>(
 
 /// The handler of the body of a number, of the present instance.
 #[tactic(auto, unfolding(drawing_meaning::specs::Attributes::own_handler))]
-fn own_handler<O: Owners>(
+fn own_handler(
     around: &Around<'_>,
     number: u32,
     name: &Txt,
     place: u32,
     progress: &mut Progress,
-    owners: &O,
 ) -> Result<Option<ItemAttribute>, Exit>
-    ensures means { AgreesAs option_to_list result (reached progress.new (O.fields owners.now))
-        (spec.own_handler number name.now place (stage_in around.now (O.parameters owners.now)) (reached progress.old (O.fields owners.now))) }
+    ensures means { (fields parameters : Fields) → AgreesAs option_to_list result (reached progress.new fields)
+        (spec.own_handler number name.now place (stage_in around.now parameters) (reached progress.old fields)) }
     ensures spent { progress.new.left ≤ progress.old.left }
 {
     pay(progress)?;
@@ -238,7 +237,7 @@ fn attribute<O: Owners>(
             name,
             place,
         } => {
-            let one = own_handler(around, *number, name, *place, progress, owners)?;
+            let one = own_handler(around, *number, name, *place, progress)?;
             Ok(worn(alloc, one, key)?)
         }
     }

@@ -1,5 +1,5 @@
 // Units that are paid, and what new texts cost.
-ghost use Rattle.std.specs.Prelude.{◌≡◌, ◌<◌, ◌≤◌, IfOk};
+ghost use Rattle.std.specs.Prelude.{◌<◌, ◌≤◌, IfOk};
 ghost use Rattle.cs_meaning.specs.State.{Fields};
 ghost use Rattle.cs_meaning.specs.NewValues.{made};
 ghost use Rattle.drawing_meaning.specs.Drawing as spec;

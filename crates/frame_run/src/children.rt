@@ -1,5 +1,5 @@
 // Operations one after another, in scopes of their own and as siblings.
-ghost use Rattle.std.specs.Prelude.{◌≡◌, ◌≤◌, map};
+ghost use Rattle.std.specs.Prelude.{◌≤◌, map};
 ghost use Rattle.drawing_meaning.specs.Acts as spec;
 ghost use Rattle.drawing_meaning.specs.Drawing.{Drawing, scoped as in_scope};
 ghost use Rattle.frame_program.specs.Operations.{act_of};

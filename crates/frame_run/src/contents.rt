@@ -4,7 +4,6 @@ ghost use Rattle.std.specs.Option.{option_to_list};
 ghost use Rattle.cs_meaning.specs.State.{Fields};
 ghost use Rattle.drawing_meaning.specs.Acts.{output};
 ghost use Rattle.drawing_meaning.specs.Nodes as spec;
-ghost use Rattle.drawing_meaning.specs.Stages.{Stage};
 ghost use Rattle.frame_program.specs.Operations.{appears_in};
 ghost use Rattle.frame_run.specs.Agrees.{Agrees, AgreesAs, reached, stage_in};
 
@@ -58,15 +57,14 @@ fn if_any(alloc: Global, item: Option<Item>) -> Result<Output, AllocError>
 
 /// A literal text.
 #[tactic(auto, unfolding(drawing_meaning::specs::Nodes::text))]
-pub(crate) fn literal<O: Owners>(
+pub(crate) fn literal(
     around: &Around<'_>,
     number: u32,
     text: &Txt,
     progress: &mut Progress,
-    owners: &O,
 ) -> Result<Output, Exit>
-    ensures means { Agrees result (reached progress.new (O.fields owners.now))
-        (spec.text number text.now (stage_in around.now (O.parameters owners.now)) (reached progress.old (O.fields owners.now))) }
+    ensures means { (fields parameters : Fields) → Agrees result (reached progress.new fields)
+        (spec.text number text.now (stage_in around.now parameters) (reached progress.old fields)) }
     ensures spent { progress.new.left ≤ progress.old.left }
 {
     pay(progress)?;
@@ -77,15 +75,14 @@ pub(crate) fn literal<O: Owners>(
 
 /// A literal text that is markup.
 #[tactic(auto, unfolding(drawing_meaning::specs::Nodes::raw))]
-pub(crate) fn raw<O: Owners>(
+pub(crate) fn raw(
     around: &Around<'_>,
     number: u32,
     text: &Txt,
     progress: &mut Progress,
-    owners: &O,
 ) -> Result<Output, Exit>
-    ensures means { Agrees result (reached progress.new (O.fields owners.now))
-        (spec.raw number text.now (stage_in around.now (O.parameters owners.now)) (reached progress.old (O.fields owners.now))) }
+    ensures means { (fields parameters : Fields) → Agrees result (reached progress.new fields)
+        (spec.raw number text.now (stage_in around.now parameters) (reached progress.old fields)) }
     ensures spent { progress.new.left ≤ progress.old.left }
 {
     pay(progress)?;
@@ -96,15 +93,14 @@ pub(crate) fn raw<O: Owners>(
 
 /// A value as a text.
 #[tactic(auto, unfolding(drawing_meaning::specs::Nodes::as_text))]
-fn as_text<O: Owners>(
+fn as_text(
     around: &Around<'_>,
     number: u32,
     value: &Value,
     progress: &mut Progress,
-    owners: &O,
 ) -> Result<Option<Item>, Exit>
-    ensures means { AgreesAs option_to_list result (reached progress.new (O.fields owners.now))
-        (spec.as_text number value.now (stage_in around.now (O.parameters owners.now)) (reached progress.old (O.fields owners.now))) }
+    ensures means { (fields parameters : Fields) → AgreesAs option_to_list result (reached progress.new fields)
+        (spec.as_text number value.now (stage_in around.now parameters) (reached progress.old fields)) }
     ensures spent { progress.new.left ≤ progress.old.left }
 {
     let text = shown(around.alloc, value, progress)?;
@@ -114,15 +110,14 @@ fn as_text<O: Owners>(
 
 /// A value as markup.
 #[tactic(auto, unfolding(drawing_meaning::specs::Nodes::as_markup))]
-fn as_markup<O: Owners>(
+fn as_markup(
     around: &Around<'_>,
     number: u32,
     value: &Value,
     progress: &mut Progress,
-    owners: &O,
 ) -> Result<Option<Item>, Exit>
-    ensures means { AgreesAs option_to_list result (reached progress.new (O.fields owners.now))
-        (spec.as_markup number value.now (stage_in around.now (O.parameters owners.now)) (reached progress.old (O.fields owners.now))) }
+    ensures means { (fields parameters : Fields) → AgreesAs option_to_list result (reached progress.new fields)
+        (spec.as_markup number value.now (stage_in around.now parameters) (reached progress.old fields)) }
     ensures spent { progress.new.left ≤ progress.old.left }
 {
     let text = shown(around.alloc, value, progress)?;
@@ -205,8 +200,8 @@ fn appears<O: Owners>(
     ensures spent { progress.new.left ≤ progress.old.left }
 {
     match form {
-        ContentForm::Text => as_text(around, number, &value, progress, owners),
-        ContentForm::Markup => as_markup(around, number, &value, progress, owners),
+        ContentForm::Text => as_text(around, number, &value, progress),
+        ContentForm::Markup => as_markup(around, number, &value, progress),
         ContentForm::Fragment => as_fragment(around, number, value, progress, owners),
     }
 }

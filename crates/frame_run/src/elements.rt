@@ -1,5 +1,5 @@
 // Elements, with what they wear and what is in them.
-ghost use Rattle.std.specs.Prelude.{◌≡◌, ◌≤◌, map};
+ghost use Rattle.std.specs.Prelude.{◌≤◌, map};
 ghost use Rattle.drawing_meaning.specs.Acts.{all_siblings as all_in};
 ghost use Rattle.drawing_meaning.specs.Nodes as spec;
 ghost use Rattle.drawing_meaning.specs.Stages.{deeper};

@@ -158,8 +158,8 @@ pub(crate) fn draw<O: Owners>(
             made,
             parts,
         } => component(around, *number, made, parts.as_slice(), progress, owners),
-        Operation::Text { number, text } => literal(around, *number, text, progress, owners),
-        Operation::Raw { number, text } => raw(around, *number, text, progress, owners),
+        Operation::Text { number, text } => literal(around, *number, text, progress),
+        Operation::Raw { number, text } => raw(around, *number, text, progress),
         Operation::Content { number, form, code } => {
             content(around, *number, *form, code, progress, owners)
         }

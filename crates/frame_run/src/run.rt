@@ -1,5 +1,5 @@
 // One rendering from its first unit to its last.
-ghost use Rattle.std.specs.Prelude.{◌≡◌, ◌≤◌, slice_get};
+ghost use Rattle.std.specs.Prelude.{◌≡◌, slice_get};
 ghost use Rattle.drawing_meaning.specs.Drawing.{IsDrawn};
 ghost use Rattle.frame_program.specs.Frames.{component_items, frames_of};
 ghost use Rattle.frame_run.specs.Agrees.{Agrees, reached, stage_in};

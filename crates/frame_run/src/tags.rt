@@ -1,5 +1,6 @@
 // What the tag of a component makes.
 ghost use Rattle.std.specs.Prelude.{◌≡◌, ◌≤◌, [], ◌∷◌, map, IfOk};
+ghost use Rattle.cs_ast.specs.declared.value.Value.{Value};
 ghost use Rattle.cs_ast.specs.declared.value.Value.TheVariants.{Null};
 ghost use Rattle.cs_meaning.specs.State.{Fields};
 ghost use Rattle.drawing_meaning.specs.Stages.{Stage};
@@ -72,11 +73,10 @@ fn given_value<O: Owners>(
 fn given_key<O: Owners>(
     around: &Around<'_>,
     code: &Code,
-    key: Value,
     progress: &mut Progress,
     owners: &O,
 ) -> Result<Gifts, Exit>
-    ensures means { Agrees result (reached progress.new (O.fields owners.now))
+    ensures means { (key : Value) → Agrees result (reached progress.new (O.fields owners.now))
         (spec.given_key code.now (stage_in around.now (O.parameters owners.now)) key (reached progress.old (O.fields owners.now))) }
     ensures spent { progress.new.left ≤ progress.old.left }
 {
@@ -88,17 +88,16 @@ fn given_key<O: Owners>(
 
 /// The fragment of a number, of the present instance, over the locals at these positions.
 #[tactic(auto, unfolding(drawing_meaning::specs::Tags::given_content))]
-fn given_content<O: Owners>(
+fn given_content(
     around: &Around<'_>,
     place: u32,
     number: u32,
     positions: &[u32],
     key: Value,
     progress: &mut Progress,
-    owners: &O,
 ) -> Result<Gifts, Exit>
-    ensures means { Agrees result (reached progress.new (O.fields owners.now))
-        (spec.given_content place number positions.now (stage_in around.now (O.parameters owners.now)) key (reached progress.old (O.fields owners.now))) }
+    ensures means { (fields parameters : Fields) → Agrees result (reached progress.new fields)
+        (spec.given_content place number positions.now (stage_in around.now parameters) key (reached progress.old fields)) }
     ensures spent { progress.new.left ≤ progress.old.left }
 {
     let captures = values_at(around.alloc, positions, progress)?;
@@ -112,21 +111,20 @@ fn given_content<O: Owners>(
 
 /// The same by a tag of its own.
 #[tactic(auto, unfolding(drawing_meaning::specs::Tags::given_fragment))]
-fn given_fragment<O: Owners>(
+fn given_fragment(
     around: &Around<'_>,
     place: u32,
     number: u32,
     positions: &[u32],
     key: Value,
     progress: &mut Progress,
-    owners: &O,
 ) -> Result<Gifts, Exit>
-    ensures means { Agrees result (reached progress.new (O.fields owners.now))
-        (spec.given_fragment place number positions.now (stage_in around.now (O.parameters owners.now)) key (reached progress.old (O.fields owners.now))) }
+    ensures means { (fields parameters : Fields) → Agrees result (reached progress.new fields)
+        (spec.given_fragment place number positions.now (stage_in around.now parameters) key (reached progress.old fields)) }
     ensures spent { progress.new.left ≤ progress.old.left }
 {
     pay(progress)?;
-    given_content(around, place, number, positions, key, progress, owners)
+    given_content(around, place, number, positions, key, progress)
 }
 
 /// What one part of a tag gives, behind those before it.
@@ -142,7 +140,7 @@ fn given<O: Owners>(
     ensures spent { progress.new.left ≤ progress.old.left }
 {
     match part {
-        TagPart::Key(code) => given_key(around, code, key, progress, owners),
+        TagPart::Key(code) => given_key(around, code, progress, owners),
         TagPart::Text { place, text } => given_text(around, *place, text, key, progress),
         TagPart::Value { place, code } => given_value(around, *place, code, key, progress, owners),
         TagPart::Content {
@@ -151,7 +149,7 @@ fn given<O: Owners>(
             locals,
         } => {
             let positions = locals.as_slice();
-            given_content(around, *place, *number, positions, key, progress, owners)
+            given_content(around, *place, *number, positions, key, progress)
         }
         TagPart::Fragment {
             place,
@@ -159,7 +157,7 @@ fn given<O: Owners>(
             locals,
         } => {
             let positions = locals.as_slice();
-            given_fragment(around, *place, *number, positions, key, progress, owners)
+            given_fragment(around, *place, *number, positions, key, progress)
         }
     }
 }

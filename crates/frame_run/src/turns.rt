@@ -1,5 +1,5 @@
 // Loops, each of whose turns is a region.
-ghost use Rattle.std.specs.Prelude.{◌≡◌, ◌+◌, ◌≤◌, map};
+ghost use Rattle.std.specs.Prelude.{◌+◌, ◌≤◌, map};
 ghost use Rattle.std.specs.Option.{option_copied};
 ghost use Rattle.cs_meaning.specs.Kinds.{items_of};
 ghost use Rattle.cs_meaning.specs.Reading.{used};
