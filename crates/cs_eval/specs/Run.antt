@@ -24,3 +24,9 @@ abbrev pub Evaluates : Result Value Fault → List Value → ℕ → Outcome Val
 Evaluates (Ok value) locals left outcome = (fields : Fields) × (receivers : List ℕ) × (outcome ≡ gives value (state locals fields receivers left))
 Evaluates (Err fault.Oom) locals left outcome = Unit {0}
 Evaluates (Err f) locals left outcome = (fields : Fields) × (receivers : List ℕ) × (outcome ≡ faults f (state locals fields receivers left))
+
+-- the same of code that may be stuck, and then gives nothing
+abbrev pub TriesValue : Result (Option Value) Fault → List Value → ℕ → Outcome Value → Type 0
+TriesValue (Ok (Some value)) locals left outcome = Evaluates (Ok value) locals left outcome
+TriesValue (Ok None) locals left outcome = outcome ≡ stuck
+TriesValue (Err f) locals left outcome = Evaluates (Err f) locals left outcome

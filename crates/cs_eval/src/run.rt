@@ -1,9 +1,9 @@
 // Running code from the first unit to the last.
-ghost use Rattle.std.specs.Prelude.{◌≡◌, []};
+ghost use Rattle.std.specs.Prelude.{◌≡◌, ◌≤◌, []};
 ghost use Rattle.cs_meaning.specs.State.{state};
 ghost use Rattle.cs_meaning.specs.Outcome.{IsDefined};
 ghost use Rattle.cs_meaning.specs.Meaning.{body_meaning, setting};
-ghost use Rattle.cs_eval.specs.Run.{Means, Tries, Evaluates};
+ghost use Rattle.cs_eval.specs.Run.{Means, Tries, Evaluates, TriesValue};
 
 use crate::evaluator::evaluate;
 use crate::exit::Exit;
@@ -43,6 +43,7 @@ fn run_over<S: Store>(
         (body_meaning (setting who (S.parameters store.old) bodies.now fuel.old.depth) code.now
         (state locals.old.values.items (S.fields store.old) [] fuel.old.left)) }
     ensures depth { fuel.new.depth ≡ fuel.old.depth }
+    ensures spent { fuel.new.left ≤ fuel.old.left }
     ensures parameters { S.parameters store.new ≡ S.parameters store.old }
     ensures rest { S.rest store.new ≡ S.rest store.old }
 {
@@ -139,5 +140,28 @@ pub fn eval<O: Owners>(
     match run_over(alloc, code, bodies, who, locals, &mut trial, fuel)? {
         Some(ran) => Ok(ran.value),
         None => unreachable!(),
+    }
+}
+
+/// Evaluates code of the instance `who` as [`eval`] does, and gives nothing where it is stuck.
+pub fn try_eval<O: Owners>(
+    alloc: Global,
+    code: &Code,
+    bodies: &Bodies,
+    who: u32,
+    locals: &mut Locals,
+    owners: &O,
+    fuel: &mut Fuel,
+) -> Result<Option<Value>, Fault>
+    ensures means { TriesValue result locals.new.values.items fuel.new.left
+        (body_meaning (setting who (O.parameters owners.now) bodies.now fuel.old.depth) code.now
+        (state locals.old.values.items (O.fields owners.now) [] fuel.old.left)) }
+    ensures depth { fuel.new.depth ≡ fuel.old.depth }
+    ensures spent { fuel.new.left ≤ fuel.old.left }
+{
+    let mut trial = Trial::new(alloc, owners);
+    match run_over(alloc, code, bodies, who, locals, &mut trial, fuel)? {
+        Some(ran) => Ok(Some(ran.value)),
+        None => Ok(None),
     }
 }

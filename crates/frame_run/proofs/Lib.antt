@@ -1,0 +1,5 @@
+pub mod SequenceLemmas
+pub mod SectionLemmas
+pub mod TurnLemmas
+pub mod FaultLemmas
+pub mod KeyLemmas

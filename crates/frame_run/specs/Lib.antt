@@ -1,0 +1,4 @@
+pub mod Agrees
+pub mod Clashes
+pub mod Run
+pub mod Sections
