@@ -10,7 +10,7 @@ use Rattle.cs_ast.specs.declared.value.Value.{Value}
 use Rattle.cs_ast.specs.declared.value.Value.TheVariants as v
 use Rattle.cs_meaning.specs.State.{Fields, State, state}
 use Rattle.cs_meaning.specs.Outcome.{Outcome, gives, stuck, Meaning, and_then}
-use Rattle.cs_meaning.specs.Meaning.{Setting, setting, meaning}
+use Rattle.cs_meaning.specs.Meaning.{Setting, setting, body_meaning}
 use Rattle.cs_rules.specs.declared.checked.Checked.{Checked}
 use Rattle.cs_rules.specs.Judged.{Judged, fine, breaks}
 use Rattle.cs_rules.specs.Trees.{value_in}
@@ -23,8 +23,13 @@ default_of t.Int = v.Int (pos 0)
 default_of t.Bool = v.Bool false
 default_of _ = v.Null
 
+-- no values
+abbrev pub no_fields : Fields
+no_fields who at = None
+
+-- what code gives that runs by itself, on the units that are left
 abbrev pub if_fine : Setting → Judged Checked → Meaning
-if_fine around (fine x) s = meaning around x.code s
+if_fine around (fine x) s = body_meaning around x.code (state [] no_fields [] s.left)
 if_fine around (breaks rule place) s = stuck
 
 abbrev pub initial_value : Home → Setting → CsType → Option Expr → Meaning
@@ -40,10 +45,6 @@ with_field_value home around _ next s = next s
 abbrev pub field_values : Home → Setting → List Member → State → Outcome (List Value)
 field_values home around [] s = gives [] s
 field_values home around (one ∷ others) s = with_field_value home around one.kind (field_values home around others) s
-
--- no values
-abbrev pub no_fields : Fields
-no_fields who at = None
 
 -- these values as the own fields of an instance
 abbrev pub fields_of : ℕ → List Value → Fields

@@ -14,9 +14,9 @@ use Rattle.cs_ast.specs.declared.member.Member.{Member}
 use Rattle.cs_ast.specs.declared.member.MemberKind.{MemberKind}
 use Rattle.cs_ast.specs.declared.member.MemberKind.TheVariants.{Field, Parameter, Method, Getter, RecordDef}
 use Rattle.cs_ast.specs.declared.value.Value.{Value}
-use Rattle.cs_meaning.specs.State.{State}
+use Rattle.cs_meaning.specs.State.{State, state}
 use Rattle.cs_meaning.specs.Outcome.{gives, and_then}
-use Rattle.cs_meaning.specs.Meaning.{Setting}
+use Rattle.cs_meaning.specs.Meaning.{Setting, meaning}
 use Rattle.cs_rules.specs.declared.rule.Rule.TheVariants.{UnknownType}
 use Rattle.cs_rules.specs.Judged.{fine, breaks, ◌>>=◌}
 use Rattle.cs_rules.specs.Names.{meant}
@@ -30,6 +30,7 @@ use Rattle.cs_typing.specs.Types.{RecordType, Types}
 use Rattle.cs_typing.specs.Values.{ValueHas, ValuesHave, ItemsHave}
 use Rattle.cs_typing.specs.Values as has
 use Rattle.cs_typing.specs.Expressions.{Surroundings}
+use Rattle.cs_typing.specs.States as states
 use Rattle.cs_typing.specs.States.{StateHas}
 use Rattle.cs_typing.specs.Outcomes.{Fits, no_jump}
 use Rattle.cs_typing.specs.Settings.{SettingHas}
@@ -41,8 +42,9 @@ use Rattle.cs_accepted.proofs.TypeLemmas.{fits_has}
 use Rattle.razor_rules.specs.Findings.{found, found_then}
 use Rattle.razor_rules.specs.Declarations.{initial_rules, member_rules}
 use Rattle.razor_rules.specs.Scopes.{Home, initial_scope}
-use Rattle.page_meaning.specs.Initial.{default_of, if_fine, initial_value, with_field_value, field_values}
+use Rattle.page_meaning.specs.Initial.{default_of, no_fields, if_fine, initial_value, with_field_value, field_values}
 use Rattle.page_meaning.specs.ProgramTypes.{field_of}
+use Rattle.page_typing.proofs.Drawing.{body_typed}
 use Rattle.page_typing.proofs.NarrowLambdas.{both_fine, same_value_in}
 use Rattle.page_typing.proofs.TemplateParts.{found_then_nothing, fitted}
 use Rattle.page_typing.proofs.TemplateValues.{found_nothing, no_first, no_second}
@@ -107,7 +109,9 @@ module _ (home : Home) (records : List ℕ → Option RecordType) (instances : �
       let one = both_fine (forbidding.value_in nothing (initial_scope home) a) (λ x. fitting type x) none.0 none.1 in
       let ruled : value_in (initial_scope home) a ≡ fine one.0 = sym (same_value_in (initial_scope home) a) ∙ one.1 in
       subst (λ j. Fits (no_jump types) (Initial type) (if_fine around j s)) (sym ruled)
-      (expression_sound at around [] type one.0.code s stands (fits_has at [] one.0.expr_type type one.0.code (fitted type one.0 none.0 one.2) (expression_fits a (initial_scope home) one.0 at [] ruled scope_fits)) h).1
+      (body_typed types (Initial type) (meaning around one.0.code (state [] no_fields [] s.left))
+      (expression_sound at around [] type one.0.code (state [] no_fields [] s.left) stands (fits_has at [] one.0.expr_type type one.0.code (fitted type one.0 none.0 one.2) (expression_fits a (initial_scope home) one.0 at [] ruled scope_fits))
+      (has.none, (λ who position number other there declared. absurd (cc), states.none))).1)
 
   module _ (invoking : List ℕ) (circular : List ℕ → Bool) where
     initial_fits : (w : TypeExpr) (initial : Option Expr) (s : State) → found_then (written home.records w) (initial_rules home invoking circular initial) ≡ [] → StateHas types [] s → Fits (no_jump types) (Initial (type_of w)) (initial_value home around (type_of w) initial s)

@@ -1,0 +1,17 @@
+pub mod StepLaws
+pub mod NumberedLemmas
+pub mod FrontLemmas
+pub mod ScopeLemmas
+pub mod BodyLaws
+pub mod WordLaws
+pub mod PartLaws
+pub mod SameParts
+pub mod MethodLaws
+pub mod CallbackLaws
+pub mod AttributeLaws
+pub mod OrderLaws
+pub mod TargetLaws
+pub mod TagLaws
+pub mod NodeLaws
+pub mod StatementLaws
+pub mod SectionLaws

@@ -1,0 +1,16 @@
+pub mod Steps
+pub mod Heads
+pub mod HeadViews
+pub mod Views
+pub mod Methods
+pub mod Uses
+pub mod Callbacks
+pub mod Attributes
+pub mod Order
+pub mod Targets
+pub mod Tags
+pub mod Giving
+pub mod Content
+pub mod Sections
+pub mod Nodes
+pub mod Components
