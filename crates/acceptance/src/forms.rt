@@ -1,64 +1,12 @@
-// Which files are of the first-click form, and their pages.
-use crate::support::{ended, outcome, page};
+// Which files are of the first-click form, which alone is replayed so far.
+use crate::support::{ended, replayed};
 use std::alloc::Global;
 use std::process::Abort;
 use std::test::Fail;
 
-fn are_pages(rt: &impl Abort, alloc: Global, rows: &[(&str, &str)]) -> Result<(), Fail> {
-    for (text, expected) in rows {
-        let ran = page(alloc, text)?;
-        ended(rt, &ran, 0, expected, text);
-    }
-    Ok(())
-}
-
-#[test]
-fn renders_pages(rt: HostRuntime) -> Result<(), Fail> {
-    are_pages(
-        &rt,
-        rt.alloc(),
-        &[
-            ("", "\n"),
-            (" \t\n ", "\n"),
-            ("Hello", "Hello\n"),
-            ("<p>@n</p>@code { int n = 0; }", "<p>0</p>\n"),
-            ("1 > 0 \"'", "1 &gt; 0 \"'\n"),
-            ("<p></p><p> </p>", "<p></p><p></p>\n"),
-            ("<b>x</b> <i>y</i>\n", "<b>x</b> <i>y</i>\n"),
-            (
-                "<ul>\n <li>a</li>\n <li>b</li>\n</ul>\n",
-                "<ul><li>a</li>\n <li>b</li></ul>\n",
-            ),
-            ("<p> a </p>", "<p> a </p>\n"),
-            ("@a @b @code{int a=1;int b=2147483647;}", "1 2147483647\n"),
-            ("@b,@a\n\n@code\n{ int a = 007 ; int b=10; }\n", "10,7\n"),
-            ("<p>@Dispose</p>\n@code{int Dispose=3;}", "<p>3</p>\n"),
-            (
-                "(@x) {@x} @code { int x = 5; int unused = 6; }",
-                "(5) {5} \n",
-            ),
-            ("<i>@codes</i>@code{int codes=1;}", "<i>1</i>\n"),
-            (
-                "<p>@n</p><button @onclick=\"Add\">+</button>@code { int n = 0; void Add() { n++; } }",
-                "<p>0</p><button>+</button>\n",
-            ),
-            (
-                "<b @onclick=\"B\"><i @onclick=\"A\">x</i></b>@code{void A(){}int n=1;void B(){n--;}}",
-                "<b><i>x</i></b>\n",
-            ),
-            ("@code{void A(){n=n+2*(n-m);m=7;}int m=0;int n=1;}", "\n"),
-            (
-                "@code { int n = 1; void A ( ) { n = 2147483647 - n ; n -- ; } }",
-                "\n",
-            ),
-            ("@code{void Dispose(){}}", "\n"),
-        ],
-    )
-}
-
 fn are_refused(rt: &impl Abort, alloc: Global, texts: &[&str]) -> Result<(), Fail> {
     for text in texts {
-        let ran = page(alloc, text)?;
+        let ran = replayed(alloc, "A.razor", text)?;
         ended(rt, &ran, 1, "refused NotYet A.razor 1:1\n", text);
     }
     Ok(())
@@ -189,7 +137,7 @@ fn refuses_other_files(rt: HostRuntime) -> Result<(), Fail> {
 
 fn end_with(rt: &impl Abort, alloc: Global, rows: &[(&str, u8)]) -> Result<(), Fail> {
     for (name, status) in rows {
-        let ran = outcome(alloc, &["render", name], name, "x")?;
+        let ran = replayed(alloc, name, "x")?;
         assert_eq!(rt; ran.status, *status, "at {name}");
     }
     Ok(())

@@ -10,7 +10,11 @@ mod faults;
 #[cfg(test)]
 mod forms;
 #[cfg(test)]
+mod frames;
+#[cfg(test)]
 mod limits;
+#[cfg(test)]
+mod pages;
 #[cfg(test)]
 mod refusals;
 #[cfg(test)]

@@ -1,5 +1,5 @@
 // Files at the limits of the form and of the program.
-use crate::support::page;
+use crate::support::{page, replayed};
 use std::alloc::Global;
 use std::test::Fail;
 use text_core::Oom;
@@ -61,7 +61,7 @@ const SIZES: &[(&[(&str, usize)], u8)] = &[
 
 fn status_of(alloc: Global, parts: &[(&str, usize)]) -> Result<u8, Oom> {
     let text = made_of(alloc, parts)?;
-    Ok(page(alloc, text.as_str())?.status)
+    Ok(replayed(alloc, "A.razor", text.as_str())?.status)
 }
 
 #[test]

@@ -56,6 +56,16 @@ pub fn page(alloc: Global, text: &str) -> Result<Ran, Oom> {
     outcome(alloc, &["render", "A.razor"], "A.razor", text)
 }
 
+/// The transcript of no steps over a file, or the line in its place.
+pub fn replayed(alloc: Global, name: &str, text: &str) -> Result<Ran, Oom> {
+    let mut files = all_files(alloc, &[("s.json", "{\"steps\":[]}"), (name, text)])?;
+    run_over(
+        alloc,
+        &texts(alloc, &["replay", "s.json", name])?,
+        &mut files,
+    )
+}
+
 /// A run ended with this status and wrote this text.
 pub fn ended(rt: &impl Abort, ran: &Ran, status: u8, written: &str, at: &str) {
     assert_eq!(rt; ran.status, status, "at {at}");

@@ -31,6 +31,11 @@ pub all_held : (held : Contents) (names : List (List ℕ)) (files : List SourceF
 all_held held _ _ no_more = tt
 all_held held _ _ (one_more name file names files named holds others) = ((file.bytes.items, holds), all_held held names files others)
 
+-- each name has its file
+pub held_length : (held : Contents) (names : List (List ℕ)) (files : List SourceFile) → AreHeld held names files → length names ≡ length files
+held_length held _ _ no_more = refl
+held_length held _ _ (one_more name file names files named holds others) = ap suc (held_length held names files others)
+
 -- one file more
 pub held_more : (held : Contents) (names : List (List ℕ)) (files : List SourceFile) (name : List ℕ) (file : SourceFile) → AreHeld held names files → file.name ≡ name
     → Holds held (component_file name) file.bytes.items → AreHeld held (names ++ name ∷ []) (files ++ file ∷ [])
@@ -39,13 +44,13 @@ held_more held _ _ name file (one_more first one names files is kept others) nam
     one_more first one (names ++ name ∷ []) (files ++ file ∷ []) is kept (held_more held names files name file others named holds)
 
 -- files of the same names and bytes, in the same order
-data Alike : List SourceFile → List SourceFile → Type 0 where
+pub data Alike : List SourceFile → List SourceFile → Type 0 where
   no_file : Alike [] []
   one_file : (one other : SourceFile) (ones others : List SourceFile) → one.name ≡ other.name → one.bytes.items ≡ other.bytes.items → Alike ones others
       → Alike (one ∷ ones) (other ∷ others)
 
 -- what is held under the same names by files that tell it is alike
-alike : (file : List ℕ → Option (List ℕ)) (names : List (List ℕ)) (ones others : List SourceFile) → AreHeld (Some file) names ones → AreHeld (Some file) names others → Alike ones others
+pub alike : (file : List ℕ → Option (List ℕ)) (names : List (List ℕ)) (ones others : List SourceFile) → AreHeld (Some file) names ones → AreHeld (Some file) names others → Alike ones others
 alike file _ _ _ no_more no_more = no_file
 alike file _ _ _ (one_more name one names ones named holds rest) (one_more _ other _ others called keeps more_of) =
     one_file one other ones others (named ∙ sym called) (some_is one.bytes.items other.bytes.items (sym holds.0 ∙ keeps.0)) (alike file names ones others rest more_of)
@@ -54,7 +59,7 @@ spells_alike : (one other : SourceFile) (c : Component) → one.name ≡ other.n
     → FileSpells other.name other.bytes.items c
 spells_alike one other c named held h = subst (λ (n : List ℕ). FileSpells n other.bytes.items c) named (subst (λ (b : List ℕ). FileSpells one.name b c) held h)
 
-all_spell : (ones others : List SourceFile) (components : List Component) → Alike ones others → AllSpell ones components → AllSpell others components
+pub all_spell : (ones others : List SourceFile) (components : List Component) → Alike ones others → AllSpell ones components → AllSpell others components
 all_spell _ _ _ no_file none = none
 all_spell _ _ _ (one_file one other ones others named held rest) (more _ c _ components h further) =
     more other c others components (spells_alike one other c named held h) (all_spell ones others components rest further)
@@ -133,7 +138,7 @@ rules_bound components circular position (one ∷ others) [] = omega arith
 rules_bound components circular position (one ∷ others) (effect ∷ effects) =
     let below : length (files_rules components circular (position + 1) others effects) ≤ length others = rules_bound components circular (position + 1) others effects in omega (arith, below)
 
-as_many : (files : List SourceFile) (components : List Component) → AllSpell files components → length files ≡ length components
+pub as_many : (files : List SourceFile) (components : List Component) → AllSpell files components → length files ≡ length components
 as_many _ _ none = refl
 as_many _ _ (more file c files components h others) = ap suc (as_many files components others)
 

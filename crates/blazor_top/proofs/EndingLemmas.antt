@@ -10,14 +10,16 @@ use Rattle.schedule_replay.specs.declared.schedule.ScheduleFault.{ScheduleFault}
 use Rattle.schedule_replay.specs.declared.schedule.ScheduleFault.TheVariants as fault
 use Rattle.schedule_replay.specs.Schedule.{schedule_of}
 use Rattle.blazor_top.specs.declared.command.Command.{Command}
-use Rattle.blazor_top.specs.declared.command.Command.TheVariants.{Check, Render, Replay}
+use Rattle.blazor_top.specs.declared.command.Command.TheVariants.{Ask, Replay}
 use Rattle.blazor_top.specs.declared.status.Status.{Status}
 use Rattle.blazor_top.specs.declared.status.Status.TheVariants.{Done, Refused, Usage, Unscheduled, Missing, Unread, Unwritten, TooLarge, OutOfMemory}
 use Rattle.blazor_top.specs.Command.{command_of}
 use Rattle.blazor_top.specs.Program.{FileSpells, HasComponent, HasNoComponent, HasSchedule, RefusedAt, first, second, program_of}
 use Rattle.blazor_top.specs.Reading.{Contents, Named, Holds, IsThere, Lacks, Exceeds, FirstSuch, here, behind, component_file, schedule_file, files_of}
-use Rattle.blazor_top.proofs.CheckingLemmas.{all_held, never_unsound}
-use Rattle.blazor_top.specs.Reply.{missing_line, unread_line, too_large_line, Replies, IsStopped, IsRefusal, IsNotYet, IsUnsound, Unscheduled as IsWrong, unread, no_step}
+use Rattle.blazor_top.proofs.AskingLemmas.{never_declined}
+use Rattle.blazor_top.proofs.CheckingLemmas.{all_held}
+use Rattle.blazor_top.specs.Lines.{missing_line, unread_line, too_large_line}
+use Rattle.blazor_top.specs.Reply.{Replies, IsStopped, IsRefusal, IsNotYet, IsDeclined, Unscheduled as IsWrong, unread, no_step}
 use Rattle.blazor_top.specs.Run.{Told, Says, AreAccepted, IsAccepted, Finishes, whole, stopped, no_memory, lines_bytes}
 use Rattle.blazor_top.specs.Status.{code_of}
 
@@ -83,8 +85,7 @@ module _ (file : List ℕ → Option (List ℕ)) where
   component_there name component has = (has.bytes, has.there)
 
   all_there : (command : Command) → AreAccepted (Some file) command → Every (IsThere (Some file)) (files_of command)
-  all_there (Check names) accepted = all_held (Some file) names accepted.0 accepted.1
-  all_there (Render name) accepted = (component_there name accepted.0 accepted.1, tt)
+  all_there (Ask question names) accepted = all_held (Some file) names accepted.0 accepted.1
   all_there (Replay name root []) accepted =
       ((accepted.1.1.bytes, accepted.1.1.there), (component_there root accepted.2.0 accepted.2.1, tt))
   all_there (Replay name root (other ∷ others)) accepted = absurd (not_empty other others accepted.0)
@@ -104,8 +105,7 @@ module _ (file : List ℕ → Option (List ℕ)) where
   none_at_all _ at none (second name other others component has) = not_empty name (other ∷ others) none
 
   not_refused : (command : Command) (at : List ℕ) → AreAccepted (Some file) command → RefusedAt (Some file) (program_of command) at → ⊥
-  not_refused (Check names) at accepted refused = none_at_all [] at refl refused
-  not_refused (Render name) at accepted refused = one_file (name ∷ []) name at accepted.0 refl accepted.1 refused
+  not_refused (Ask question names) at accepted refused = none_at_all [] at refl refused
   not_refused (Replay name root []) at accepted refused = one_file (root ∷ []) root at accepted.2.0 refl accepted.2.1 refused
   not_refused (Replay name root (other ∷ others)) at accepted refused = not_empty other others accepted.0
 
@@ -157,14 +157,14 @@ module _ (words : List (List ℕ)) (file : List ℕ → Option (List ℕ)) (comm
       let good : AreAccepted (Some file) refusal.command = subst (AreAccepted (Some file)) (same_command refusal.command refusal.asked) accepted in
       not_refused file refusal.command refusal.file good refusal.refused
 
-  never_broken : (lines : List (List ℕ)) → IsUnsound words (Some file) lines → ⊥
-  never_broken lines refusal =
-      let good : AreAccepted (Some file) (Check refusal.names) = subst (AreAccepted (Some file)) (same_command (Check refusal.names) refusal.asked) accepted in
-      never_unsound file refusal.names good.0 refusal.files good.2.0 refusal.line good.1 good.2.1 refusal.there refusal.refused
+  never_answered : (lines : List (List ℕ)) → IsDeclined words (Some file) lines → ⊥
+  never_answered lines refusal =
+      let good : AreAccepted (Some file) (Ask refusal.question refusal.names) = subst (AreAccepted (Some file)) (same_command (Ask refusal.question refusal.names) refusal.asked) accepted in
+      never_declined file refusal.question refusal.names good.0 refusal.files refusal.line good.1 good.2 refusal.there refusal.refused
 
   never_refused : (lines : List (List ℕ)) → IsRefusal words (Some file) lines → ⊥
   never_refused lines (inl refusal) = never_not_yet lines refusal
-  never_refused lines (inr refusal) = never_broken lines refusal
+  never_refused lines (inr refusal) = never_answered lines refusal
 
   planned : (name root : List ℕ) → command_of words ≡ Some (Replay name root []) → (schedule : Schedule) × HasSchedule (Some file) name (Ok schedule)
   planned name root is = let good : AreAccepted (Some file) (Replay name root []) = subst (AreAccepted (Some file)) (same_command (Replay name root []) is) accepted in good.1

@@ -5,26 +5,26 @@ use Rattle.schedule_replay.specs.Every.{Every}
 use Rattle.first_click.specs.declared.component.Component.{Component}
 use Rattle.component_files.specs.declared.files.SourceFile.{SourceFile}
 use Rattle.blazor_top.specs.declared.command.Command.{Command}
-use Rattle.blazor_top.specs.declared.command.Command.TheVariants.{Check, Render, Replay}
+use Rattle.blazor_top.specs.declared.command.Command.TheVariants.{Ask, Replay}
+use Rattle.blazor_top.specs.declared.command.Question.{Question}
 use Rattle.blazor_top.specs.declared.status.Status.{Status}
 use Rattle.blazor_top.specs.declared.status.Status.TheVariants as status
 use Rattle.blazor_top.specs.Command.{command_of}
 use Rattle.blazor_top.specs.Program.{HasComponent, HasNoComponent, first, second}
 use Rattle.blazor_top.specs.Reading.{Contents, Named, Holds, IsThere, FirstSuch, here, behind, files_of, schedule_file, component_file}
 use Rattle.blazor_top.specs.Checking.{AreHeld}
-use Rattle.blazor_top.specs.Reply.{refused_line, IsOutput, Replies}
-use Rattle.blazor_top.specs.Stopping.{CommandOutput, CommandRefused, at_file, at_program, at_rules, at_schedule, NoComponent, NoSchedule, wrong, many, PlaysNot, at_first, at_second, at_plan, RefusesFor, StopsAt}
+use Rattle.blazor_top.specs.Lines.{refused_line}
+use Rattle.blazor_top.specs.Reply.{IsOutput, Replies}
+use Rattle.blazor_top.specs.Stopping.{CommandOutput, CommandRefused, at_file, at_program, at_question, at_schedule, NoComponent, NoSchedule, wrong, many, PlaysNot, at_first, at_second, at_plan, Declines, StopsAt}
 
 not_empty : (other : List ℕ) (others : List (List ℕ)) → other ∷ others ≡ [] → ⊥
 not_empty other others e = cc
 
 module _ (words : List (List ℕ)) (held : Contents) where
   pub is_output : (command : Command) (lines : List (List ℕ)) → command_of words ≡ Some command → CommandOutput held command lines → IsOutput words held lines
-  is_output (Render file) lines asked out = inl (record { file = file; component = out.0; asked = asked; spelled = out.1; is = out.2 })
-  is_output (Check names) lines asked out =
-      inr (inr (record { names = names; files = out.0; components = out.2.0; asked = asked; there = out.1; sound = out.2.1; is = out.2.2 }))
+  is_output (Ask question names) lines asked out = inl (record { question = question; names = names; files = out.0; asked = asked; there = out.1; is = out.2 })
   is_output (Replay name root []) lines asked out =
-      inr (inl (record { name = name; root = root; schedule = out.0; component = out.1; asked = asked; planned = out.3; spelled = out.4; transcript = out.5 }))
+      inr (record { name = name; root = root; schedule = out.0; component = out.1; asked = asked; planned = out.3; spelled = out.4; transcript = out.5 })
   is_output (Replay name root (other ∷ others)) lines asked out = absurd (not_empty other others out.2)
 
   -- there is no such file
@@ -55,18 +55,10 @@ module _ (words : List (List ℕ)) (held : Contents) where
       → Replies words held rose got (line ∷ [])
   refused rose _ _ _ asked (at_file command got line stops) = of_file rose command stops.0 got line asked stops.1
   refused rose _ _ _ asked (at_program command file there at) = inl (record { command = command; file = file; asked = asked; there = there; refused = at; is = refl })
-  refused rose _ _ _ asked (at_rules names files line there why) = inr (record { names = names; files = files; line = line; asked = asked; there = there; refused = why; is = refl })
+  refused rose _ _ _ asked (at_question question names files line there why) =
+      inr (record { question = question; names = names; files = files; line = line; asked = asked; there = there; refused = why; is = refl })
   refused rose _ _ _ asked (at_schedule name root bytes component got line spelled there why) =
       of_schedule rose name root bytes component got line asked spelled there why
-
--- a rendering is refused at its file
-pub render_refused : (held : Contents) (rose : Type 0) (file bytes : List ℕ) → Holds held (component_file file) bytes
-    → (got : Status) (line : List ℕ) → NoComponent file bytes got line → CommandRefused held rose (Render file) got line
-render_refused held rose file bytes there got line none =
-    let no : HasNoComponent held file = record { bytes = bytes; there = there; not_spelled = none.not_spelled } in
-    let at : CommandRefused held rose (Render file) status.Refused (refused_line file) = at_program (Render file) file ((bytes, there), tt) (first file [] no) in
-    subst (λ (s : Status). CommandRefused held rose (Render file) s line) (sym none.refused)
-    (subst (CommandRefused held rose (Render file) status.Refused) (sym none.is) at)
 
 -- a replay is refused for what its files spell
 pub replay_refused : (held : Contents) (rose : Type 0) (name root planned spelled : List ℕ) (others : List (List ℕ)) → Holds held (schedule_file name) planned
@@ -81,8 +73,8 @@ replay_refused held rose name root planned spelled _ plan there more _ _ (at_sec
 replay_refused held rose name root planned spelled _ plan there more _ _ (at_plan component got line spells why) =
     at_schedule name root planned component got line (record { bytes = spelled; there = there; spelled = spells }) plan why
 
--- a program is refused for what its files spell
-pub check_refused : (held : Contents) (rose : Type 0) (names : List (List ℕ)) (files : List SourceFile) → AreHeld held names files
-    → (got : Status) (line : List ℕ) → RefusesFor files got line → CommandRefused held rose (Check names) got line
-check_refused held rose names files there got line why =
-    subst (λ (s : Status). CommandRefused held rose (Check names) s line) (sym why.0) (at_rules names files line there why.1)
+-- a question has no answer, for what the files spell
+pub ask_refused : (held : Contents) (rose : Type 0) (question : Question) (names : List (List ℕ)) (files : List SourceFile) → AreHeld held names files
+    → (got : Status) (line : List ℕ) → Declines question files got line → CommandRefused held rose (Ask question names) got line
+ask_refused held rose question names files there got line why =
+    subst (λ (s : Status). CommandRefused held rose (Ask question names) s line) (sym why.0) (at_question question names files line there why.1)

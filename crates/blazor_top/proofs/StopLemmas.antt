@@ -15,7 +15,7 @@ use Rattle.blazor_top.specs.Reading.{Contents, Named, named, component_file, IsT
 use Rattle.blazor_top.specs.Program.{FileSpells}
 use Rattle.first_click.specs.declared.component.Component.{Component}
 use Rattle.first_click.proofs.OptionLemmas.{some_is, some_none}
-use Rattle.blazor_top.specs.Reply.{refused_line}
+use Rattle.blazor_top.specs.Lines.{refused_line}
 use Rattle.blazor_top.proofs.PlaceLemmas.{at_place}
 use Rattle.blazor_top.specs.Stopping.{OnStop, OnRefusal, Refuses, AnswerStops, StopsAt, Stopped, NoComponent, NoSchedule, PlaysNot, at_first, at_second, at_plan}
 

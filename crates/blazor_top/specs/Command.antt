@@ -3,7 +3,9 @@ use Rattle.std.specs.Prelude.{ℕ, Bool, false, nat_le, List, [], ◌∷◌, len
 use Rattle.std.specs.Str.{bytes_eq}
 use Rattle.first_click.specs.Options.{◌>>=◌}
 use Rattle.blazor_top.specs.declared.command.Command.{Command}
-use Rattle.blazor_top.specs.declared.command.Command.TheVariants.{Check, Render, Replay}
+use Rattle.blazor_top.specs.declared.command.Command.TheVariants.{Ask, Replay}
+use Rattle.blazor_top.specs.declared.command.Question.{Question}
+use Rattle.blazor_top.specs.declared.command.Question.TheVariants.{Check, Render, Frames}
 
 -- the first character is `-`
 abbrev pub begins_with_dash : List ℕ → Bool
@@ -18,16 +20,10 @@ names_in (word ∷ words) =
     else if begins_with_dash word then None
     else names_in words >>= λ names. Some (word ∷ names)
 
--- `check` takes the names of 1 to 256 files
-abbrev pub check_of : List (List ℕ) → Option Command
-check_of [] = None
-check_of (file ∷ files) = if nat_le (length files) 255 then Some (Check (file ∷ files)) else None
-
--- `render` takes the name of one file
-abbrev pub render_of : List (List ℕ) → Option Command
-render_of [] = None
-render_of (file ∷ []) = Some (Render file)
-render_of (file ∷ other ∷ names) = None
+-- a program has 1 to 256 files
+abbrev pub asked_of : Question → List (List ℕ) → Option Command
+asked_of question [] = None
+asked_of question (file ∷ files) = if nat_le (length files) 255 then Some (Ask question (file ∷ files)) else None
 
 -- `replay` takes the name of a schedule, and then those of 1 to 256 files
 abbrev pub replay_of : List (List ℕ) → Option Command
@@ -35,11 +31,16 @@ replay_of [] = None
 replay_of (schedule ∷ []) = None
 replay_of (schedule ∷ root ∷ others) = if nat_le (length others) 255 then Some (Replay schedule root others) else None
 
+-- the command of a word and of the names behind it
+abbrev pub named_of : List ℕ → List (List ℕ) → Option Command
+named_of word names =
+    if bytes_eq word (codes "check") then asked_of Check names
+    else if bytes_eq word (codes "render") then asked_of Render names
+    else if bytes_eq word (codes "frames") then asked_of Frames names
+    else if bytes_eq word (codes "replay") then replay_of names
+    else None
+
 -- the command that the words ask for
 abbrev pub command_of : List (List ℕ) → Option Command
 command_of [] = None
-command_of (word ∷ words) =
-    if bytes_eq word (codes "check") then names_in words >>= check_of
-    else if bytes_eq word (codes "render") then names_in words >>= render_of
-    else if bytes_eq word (codes "replay") then names_in words >>= replay_of
-    else None
+command_of (word ∷ words) = names_in words >>= named_of word

@@ -1,7 +1,8 @@
-pub mod Edits
 pub mod Command
 pub mod Reading
 pub mod Checking
+pub mod Asking
+pub mod Lines
 pub mod Program
 pub mod Transcript
 pub mod Reply

@@ -6,7 +6,7 @@ use Rattle.schedule_replay.specs.declared.schedule.Schedule.{Schedule}
 use Rattle.schedule_replay.specs.declared.schedule.ScheduleFault.{ScheduleFault}
 use Rattle.schedule_replay.specs.Schedule.{schedule_of}
 use Rattle.blazor_top.specs.declared.command.Command.{Command}
-use Rattle.blazor_top.specs.declared.command.Command.TheVariants.{Check, Render, Replay}
+use Rattle.blazor_top.specs.declared.command.Command.TheVariants.{Ask, Replay}
 use Rattle.blazor_top.specs.Reading.{Contents, Holds, component_file, schedule_file}
 
 -- a file of this name and these bytes spells the component
@@ -35,10 +35,9 @@ pub record HasSchedule (held : Contents) (name : List ℕ) (found : Result Sched
   pub there : Holds held (schedule_file name) bytes
   pub is : schedule_of bytes ≡ found
 
--- the files of a command that are to spell components of the first-click form
+-- the files of a command that are to spell components of the first-click form, as a replay takes them so far
 abbrev pub program_of : Command → List (List ℕ)
-program_of (Check files) = []
-program_of (Render file) = file ∷ []
+program_of (Ask question files) = []
 program_of (Replay schedule root others) = root ∷ others
 
 -- the file at which a program is refused: the first where it spells no component, else the second, for a program is one component so far

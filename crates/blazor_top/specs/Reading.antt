@@ -1,7 +1,7 @@
 -- Which files a command names, and which of them is answered for.
 use Rattle.std.specs.Prelude.{◌≡◌, ℕ, ◌<◌, ◌≤◌, List, [], ◌∷◌, length, map, Option, Some, None, ⊤}
 use Rattle.blazor_top.specs.declared.command.Command.{Command}
-use Rattle.blazor_top.specs.declared.command.Command.TheVariants.{Check, Render, Replay}
+use Rattle.blazor_top.specs.declared.command.Command.TheVariants.{Ask, Replay}
 
 -- the bytes at each name, where files tell them
 abbrev pub Contents : Type 0
@@ -23,8 +23,7 @@ schedule_file name = named name 16777216
 
 -- the files that a command names, in the order of the words
 abbrev pub files_of : Command → List Named
-files_of (Check files) = map component_file files
-files_of (Render file) = component_file file ∷ []
+files_of (Ask question files) = map component_file files
 files_of (Replay schedule root others) = schedule_file schedule ∷ component_file root ∷ map component_file others
 
 -- the file has these bytes, and no more than it may have

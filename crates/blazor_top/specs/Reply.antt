@@ -1,62 +1,29 @@
 -- What the program is to write: lines, each of which gets its end.
 use Rattle.std.specs.Prelude.{◌≡◌, ℕ, List, [], ◌∷◌, ◌++◌, codes, Some, None, ◌⊎◌, Ok, Err}
 use Rattle.std.specs.Fmt.{decimal}
-use Rattle.page_core.specs.Print.{nodes_text}
 use Rattle.first_click.specs.declared.component.Component.{Component}
-use Rattle.razor_ast.specs.declared.component.Component.{Component as Tree}
 use Rattle.component_files.specs.declared.files.SourceFile.{SourceFile}
-use Rattle.first_click.specs.Rendering.{fresh}
 use Rattle.schedule_replay.specs.Every.{Every}
 use Rattle.schedule_replay.specs.Schedule.{schedule_of}
 use Rattle.schedule_replay.specs.declared.schedule.Schedule.{Schedule}
 use Rattle.schedule_replay.specs.declared.schedule.ScheduleFault.TheVariants as fault
 use Rattle.blazor_top.specs.declared.command.Command.{Command}
-use Rattle.blazor_top.specs.declared.command.Command.TheVariants.{Check, Render, Replay}
+use Rattle.blazor_top.specs.declared.command.Command.TheVariants.{Ask, Replay}
+use Rattle.blazor_top.specs.declared.command.Question.{Question}
 use Rattle.blazor_top.specs.declared.status.Status.{Status}
 use Rattle.blazor_top.specs.declared.status.Status.TheVariants as status
 use Rattle.blazor_top.specs.Command.{command_of}
 use Rattle.blazor_top.specs.Program.{HasComponent, HasSchedule, RefusedAt, program_of}
 use Rattle.blazor_top.specs.Reading.{Contents, Named, Holds, IsThere, Lacks, Exceeds, FirstSuch, files_of, schedule_file}
-use Rattle.blazor_top.specs.Checking.{AreHeld, IsRefusedFor, IsSound, sound_line}
+use Rattle.blazor_top.specs.Asking.{Answered, Declined}
+use Rattle.blazor_top.specs.Checking.{AreHeld}
+use Rattle.blazor_top.specs.Lines.{usage_line, refused_line, missing_line, unread_line, too_large_line}
 use Rattle.blazor_top.specs.Transcript.{IsTranscriptOf}
-
--- the page of the component, rendered fresh and printed
-abbrev pub page_line : Component → List ℕ
-page_line component = nodes_text (fresh 1 component)
-
--- the line for words that are no command
-abbrev pub usage_line : List ℕ
-usage_line = codes "usage: blazor COMMAND ARGUMENTS"
-
--- a line about a file, whose name stands between these words
-abbrev pub line_about : List ℕ → List ℕ → List ℕ → List ℕ
-line_about before name after = before ++ (name ++ after)
-
--- the lines about a file of this name
-abbrev pub refused_line : List ℕ → List ℕ
-refused_line name = line_about (codes "refused NotYet ") name (codes " 1:1")
-
-abbrev pub missing_line : List ℕ → List ℕ
-missing_line name = line_about (codes "missing ") name []
-
-abbrev pub unread_line : List ℕ → List ℕ
-unread_line name = line_about (codes "unread ") name []
-
-abbrev pub too_large_line : List ℕ → List ℕ
-too_large_line name = line_about (codes "too large ") name []
 
 -- the bytes spell no schedule, and the line says what is wrong with them first
 pub data Unscheduled (bytes : List ℕ) : List ℕ → Type 0 where
   unread : schedule_of bytes ≡ Err fault.Unread → Unscheduled bytes (codes "schedule unread")
   no_step : (number : ℕ) → schedule_of bytes ≡ Err (fault.Step number) → Unscheduled bytes (codes "schedule step " ++ decimal number)
-
--- the words ask for the page of a file that spells a component, and this is its line
-pub record IsPage (words : List (List ℕ)) (held : Contents) (lines : List (List ℕ)) : Type 0 where
-  pub file : List ℕ
-  pub component : Component
-  pub asked : command_of words ≡ Some (Render file)
-  pub spelled : HasComponent held file component
-  pub is : lines ≡ page_line component ∷ []
 
 -- the words ask for a replay, the files spell a schedule and one component, and the lines are the transcript
 pub record IsReplayed (words : List (List ℕ)) (held : Contents) (lines : List (List ℕ)) : Type 0 where
@@ -69,19 +36,18 @@ pub record IsReplayed (words : List (List ℕ)) (held : Contents) (lines : List 
   pub spelled : HasComponent held root component
   pub transcript : IsTranscriptOf component schedule lines
 
--- the words ask whether files are a program, they spell one that breaks no rule, and the line says of how many components
-pub record IsChecked (words : List (List ℕ)) (held : Contents) (lines : List (List ℕ)) : Type 0 where
+-- the words ask something of files that are there, and the lines are the answer
+pub record IsAnswered (words : List (List ℕ)) (held : Contents) (lines : List (List ℕ)) : Type 0 where
+  pub question : Question
   pub names : List (List ℕ)
   pub files : List SourceFile
-  pub components : List Tree
-  pub asked : command_of words ≡ Some (Check names)
+  pub asked : command_of words ≡ Some (Ask question names)
   pub there : AreHeld held names files
-  pub sound : IsSound files components
-  pub is : lines ≡ sound_line components ∷ []
+  pub is : Answered question files lines
 
 -- what the words ask for
 abbrev pub IsOutput : List (List ℕ) → Contents → List (List ℕ) → Type 0
-IsOutput words held lines = IsPage words held lines ⊎ (IsReplayed words held lines ⊎ IsChecked words held lines)
+IsOutput words held lines = IsAnswered words held lines ⊎ IsReplayed words held lines
 
 -- all files that the words name are there, and the program is none of the first-click form, by one of them
 pub record IsNotYet (words : List (List ℕ)) (held : Contents) (lines : List (List ℕ)) : Type 0 where
@@ -92,19 +58,20 @@ pub record IsNotYet (words : List (List ℕ)) (held : Contents) (lines : List (L
   pub refused : RefusedAt held (program_of command) file
   pub is : lines ≡ refused_line file ∷ []
 
--- the words ask whether files are a program, and they are none
-pub record IsUnsound (words : List (List ℕ)) (held : Contents) (lines : List (List ℕ)) : Type 0 where
+-- the words ask something of files that are there, and there is no answer
+pub record IsDeclined (words : List (List ℕ)) (held : Contents) (lines : List (List ℕ)) : Type 0 where
+  pub question : Question
   pub names : List (List ℕ)
   pub files : List SourceFile
   pub line : List ℕ
-  pub asked : command_of words ≡ Some (Check names)
+  pub asked : command_of words ≡ Some (Ask question names)
   pub there : AreHeld held names files
-  pub refused : IsRefusedFor files line
+  pub refused : Declined question files line
   pub is : lines ≡ line ∷ []
 
--- the files are no program
+-- the files are no program that is taken
 abbrev pub IsRefusal : List (List ℕ) → Contents → List (List ℕ) → Type 0
-IsRefusal words held lines = IsNotYet words held lines ⊎ IsUnsound words held lines
+IsRefusal words held lines = IsNotYet words held lines ⊎ IsDeclined words held lines
 
 -- the words are no command
 pub record IsUsage (words : List (List ℕ)) (lines : List (List ℕ)) : Type 0 where

@@ -3,18 +3,18 @@ use Rattle.std.specs.Prelude.{◌≡◌, ℕ, List, [], Option, Some, ◌⊎◌,
 use Rattle.outside.specs.Sink.{Adds}
 use Rattle.outside.specs.Writing.{AddsFront}
 use Rattle.first_click.specs.declared.component.Component.{Component}
-use Rattle.razor_ast.specs.declared.component.Component.{Component as Tree}
 use Rattle.component_files.specs.declared.files.SourceFile.{SourceFile}
 use Rattle.schedule_replay.specs.declared.schedule.Schedule.{Schedule}
 use Rattle.schedule_replay.specs.Line.Transcript.{lines_text}
 use Rattle.blazor_top.specs.declared.command.Command.{Command}
-use Rattle.blazor_top.specs.declared.command.Command.TheVariants.{Check, Render, Replay}
+use Rattle.blazor_top.specs.declared.command.Command.TheVariants.{Ask, Replay}
 use Rattle.blazor_top.specs.declared.status.Status.{Status}
 use Rattle.blazor_top.specs.declared.status.Status.TheVariants.{Unwritten, OutOfMemory}
 use Rattle.blazor_top.specs.Command.{command_of}
 use Rattle.blazor_top.specs.Program.{HasComponent, HasSchedule}
 use Rattle.blazor_top.specs.Reading.{Contents}
-use Rattle.blazor_top.specs.Checking.{AreHeld, IsSound}
+use Rattle.blazor_top.specs.Asking.{AreAnswerable}
+use Rattle.blazor_top.specs.Checking.{AreHeld}
 use Rattle.blazor_top.specs.Reply.{Replies}
 use Rattle.blazor_top.specs.Status.{code_of}
 
@@ -48,10 +48,9 @@ Says words held rose old new faulted status = Wrote old new (Replies words held 
 abbrev pub IsStatus : ℕ → Type 0
 IsStatus number = (status : Status) × (number ≡ code_of status)
 
--- the files that a command names are there and accepted: they spell a program that breaks no rule; or one component of the first-click form, and a schedule where one is asked for
+-- the files that a command names are there and accepted: what is asked of them has an answer; or they spell a schedule and one component of the first-click form
 abbrev pub AreAccepted : Contents → Command → Type 0
-AreAccepted held (Check names) = (files : List SourceFile) × AreHeld held names files × ((components : List Tree) × IsSound files components)
-AreAccepted held (Render file) = (component : Component) × HasComponent held file component
+AreAccepted held (Ask question names) = (files : List SourceFile) × AreHeld held names files × AreAnswerable question files
 AreAccepted held (Replay name root others) =
     (others ≡ []) × ((schedule : Schedule) × HasSchedule held name (Ok schedule)) × ((component : Component) × HasComponent held root component)
 

@@ -3,22 +3,24 @@ use Rattle.std.specs.Prelude.{◌≡◌, ℕ, List, [], ◌∷◌, Result, Ok, E
 use Rattle.outside.specs.declared.files.FileRead.{FileRead}
 use Rattle.outside.specs.declared.files.FileRead.TheVariants as read
 use Rattle.first_click.specs.declared.component.Component.{Component}
-use Rattle.razor_ast.specs.declared.component.Component.{Component as Tree}
 use Rattle.component_files.specs.declared.files.SourceFile.{SourceFile}
 use Rattle.schedule_replay.specs.Schedule.{schedule_of}
 use Rattle.schedule_replay.specs.declared.schedule.Schedule.{Schedule}
 use Rattle.schedule_replay.specs.declared.schedule.ScheduleFault.TheVariants as fault
 use Rattle.schedule_replay.specs.Every.{Every}
 use Rattle.blazor_top.specs.declared.command.Command.{Command}
-use Rattle.blazor_top.specs.declared.command.Command.TheVariants.{Check, Render, Replay}
+use Rattle.blazor_top.specs.declared.command.Command.TheVariants.{Ask, Replay}
+use Rattle.blazor_top.specs.declared.command.Question.{Question}
 use Rattle.blazor_top.specs.declared.refusal.Stop.{Stop}
 use Rattle.blazor_top.specs.declared.refusal.Stop.TheVariants as stop
 use Rattle.blazor_top.specs.declared.status.Status.{Status}
 use Rattle.blazor_top.specs.declared.status.Status.TheVariants as status
 use Rattle.blazor_top.specs.Program.{FileSpells, SpellsNone, HasComponent, HasSchedule, RefusedAt, program_of}
 use Rattle.blazor_top.specs.Reading.{Contents, Named, Holds, IsThere, Lacks, Exceeds, FirstSuch, files_of, schedule_file}
-use Rattle.blazor_top.specs.Checking.{AreHeld, IsRefusedFor, IsSound, sound_line}
-use Rattle.blazor_top.specs.Reply.{page_line, refused_line, missing_line, unread_line, too_large_line, Unscheduled}
+use Rattle.blazor_top.specs.Asking.{Answered, Declined, IsNotTaken}
+use Rattle.blazor_top.specs.Checking.{AreHeld, IsRefusedFor}
+use Rattle.blazor_top.specs.Lines.{refused_line, missing_line, unread_line, too_large_line}
+use Rattle.blazor_top.specs.Reply.{Unscheduled}
 use Rattle.blazor_top.specs.Transcript.{IsTranscriptOf}
 
 -- this holds of the refusal, if it is one
@@ -92,15 +94,17 @@ pub data PlaysNot (name root : List ℕ) (planned spelled : List ℕ) : List (Li
 abbrev pub RefusesFor : List SourceFile → Status → List ℕ → Type 0
 RefusesFor files got line = (got ≡ status.Refused) × IsRefusedFor files line
 
--- the files are a program that breaks no rule, and the line says of how many components
-abbrev pub Sounds : List SourceFile → List (List ℕ) → Type 0
-Sounds files lines = (components : List Tree) × IsSound files components × (lines ≡ sound_line components ∷ [])
+-- the files are a program that breaks no rule, and isn't taken so far, with this line
+abbrev pub RefusesAsOther : List SourceFile → Status → List ℕ → Type 0
+RefusesAsOther files got line = (got ≡ status.Refused) × IsNotTaken files line
+
+-- the question has no answer of these files, with this line
+abbrev pub Declines : Question → List SourceFile → Status → List ℕ → Type 0
+Declines question files got line = (got ≡ status.Refused) × Declined question files line
 
 -- what a command asks for
 abbrev pub CommandOutput : Contents → Command → List (List ℕ) → Type 0
-CommandOutput held (Check names) lines =
-    (files : List SourceFile) × AreHeld held names files × Sounds files lines
-CommandOutput held (Render file) lines = (component : Component) × HasComponent held file component × (lines ≡ page_line component ∷ [])
+CommandOutput held (Ask question names) lines = (files : List SourceFile) × AreHeld held names files × Answered question files lines
 CommandOutput held (Replay name root others) lines =
     (schedule : Schedule) × (component : Component) × (others ≡ []) × HasSchedule held name (Ok schedule) × HasComponent held root component
     × IsTranscriptOf component schedule lines
@@ -110,7 +114,7 @@ pub data CommandRefused (held : Contents) (rose : Type 0) : Command → Status �
   at_file : (command : Command) (got : Status) (line : List ℕ) → Stopped held rose (files_of command) got line → CommandRefused held rose command got line
   at_program : (command : Command) (file : List ℕ) → Every (IsThere held) (files_of command) → RefusedAt held (program_of command) file
       → CommandRefused held rose command status.Refused (refused_line file)
-  at_rules : (names : List (List ℕ)) (files : List SourceFile) (line : List ℕ) → AreHeld held names files → IsRefusedFor files line
-      → CommandRefused held rose (Check names) status.Refused line
+  at_question : (question : Question) (names : List (List ℕ)) (files : List SourceFile) (line : List ℕ) → AreHeld held names files → Declined question files line
+      → CommandRefused held rose (Ask question names) status.Refused line
   at_schedule : (name root bytes : List ℕ) (component : Component) (got : Status) (line : List ℕ) → HasComponent held root component
       → Holds held (schedule_file name) bytes → NoSchedule name bytes got line → CommandRefused held rose (Replay name root []) got line

@@ -1,18 +1,17 @@
 // Whether files are a program.
-ghost use Rattle.std.specs.Prelude.{◌≡◌, ◌<◌, ◌++◌, [], ◌∷◌, codes, length, slice_get, IfOk, IsTrue, None, OnOk, Some};
+ghost use Rattle.std.specs.Prelude.{◌≡◌, ◌<◌, ◌++◌, [], ◌∷◌, length, slice_get, IfOk, IsTrue, OnOk, Some};
 ghost use Rattle.std.specs.Fmt.{decimal};
 ghost use Rattle.text_core.specs.Ascii.{is_ascii};
-ghost use Rattle.razor_rules.specs.Programs.{BreaksFirst};
 ghost use Rattle.component_files.specs.Files.{AllSpell};
-ghost use Rattle.blazor_top.specs.Checking.{refusal_line, rule_kind, unread_kind, unread_place};
-ghost use Rattle.blazor_top.specs.Stopping.{OnRefusal, Refuses, RefusesFor, Sounds};
+ghost use Rattle.blazor_top.specs.Checking.{refusal_line, rule_kind, sound_line, unread_kind, unread_place, IsSound};
+ghost use Rattle.blazor_top.specs.Stopping.{OnRefusal, Refuses, RefusesFor};
 
 use crate::refusal::{Refusal, Stop, ascii_line};
 use crate::status::Status;
 use component_files::{FileFault, SourceFile, Unreadable, read_files};
 use cs_rules::Rule;
 use razor_ast::Component;
-use razor_check::{ProgramFault, check};
+use razor_check::{Program, ProgramFault, check};
 use sqlite_items::Items;
 use std::alloc::Global;
 use text_core::{Oom, Place, Txt};
@@ -132,18 +131,18 @@ fn components_of(alloc: Global, files: &[SourceFile]) -> Result<Items<Component>
     }
 }
 
-/// How many components there are, where they are a program that breaks no rule.
-fn count_of(
+/// The program of components, where they break no rule.
+fn sound_program(
     alloc: Global,
     files: &[SourceFile],
     components: Items<Component>,
-) -> Result<usize, Stop>
+) -> Result<Program, Stop>
     requires { AllSpell files.now components }
-    ensures sound { IfOk result (λ count. (count ≡ length components) × BreaksFirst components None) }
+    ensures sound { IfOk result (λ program. IsSound files.now program.components) }
     ensures refused { OnRefusal result (RefusesFor files.now) }
 {
     match check(alloc, components) {
-        Ok(program) => Ok(program.components().len()),
+        Ok(program) => Ok(program),
         Err(ProgramFault::Broken { file, rule, place }) => Err(refused(
             alloc,
             rule_kind(rule),
@@ -154,23 +153,22 @@ fn count_of(
     }
 }
 
-/// The line that says of how many components a program is, as the only one.
-fn sound_lines(alloc: Global, count: usize) -> Result<Vec<Txt>, Oom>
-    ensures { IfOk result (λ lines. lines.items ≡ (codes "ok " ++ decimal count) ∷ []) }
-{
-    let mut line = ascii_line(alloc, "ok ")?;
-    push_number(alloc, &mut line, count as u64)?;
-    let mut lines = Vec::new(alloc);
-    lines.push(line)?;
-    Ok(lines)
-}
-
-/// The only line about files that are a program.
-pub fn checked(alloc: Global, files: &[SourceFile]) -> Result<Vec<Txt>, Stop>
-    ensures output { IfOk result (λ lines. Sounds files.now lines.items) }
+/// The program that the files spell, where it breaks no rule.
+pub fn program_of(alloc: Global, files: &[SourceFile]) -> Result<Program, Stop>
+    ensures sound { IfOk result (λ program. IsSound files.now program.components) }
     ensures refused { OnRefusal result (RefusesFor files.now) }
 {
     let components = components_of(alloc, files)?;
-    let count = count_of(alloc, files, components)?;
-    Ok(sound_lines(alloc, count)?)
+    sound_program(alloc, files, components)
+}
+
+/// The line that says of how many components a program is, as the only one.
+pub fn sound_lines(alloc: Global, components: &[Component]) -> Result<Vec<Txt>, Oom>
+    ensures { IfOk result (λ lines. lines.items ≡ sound_line components.now ∷ []) }
+{
+    let mut line = ascii_line(alloc, "ok ")?;
+    push_number(alloc, &mut line, components.len() as u64)?;
+    let mut lines = Vec::new(alloc);
+    lines.push(line)?;
+    Ok(lines)
 }

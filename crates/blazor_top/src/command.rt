@@ -1,6 +1,6 @@
 // The words of the command line.
 ghost use Rattle.std.specs.Prelude.{◌≡◌, ◌++◌, IfOk, OnOk};
-ghost use Rattle.blazor_top.specs.Command.{begins_with_dash, check_of, command_of, names_in, render_of, replay_of};
+ghost use Rattle.blazor_top.specs.Command.{asked_of, begins_with_dash, command_of, names_in, replay_of};
 
 use sqlite_items::Items;
 use std::alloc::Global;
@@ -12,16 +12,23 @@ const MOST_OTHERS: usize = 255;
 /// The most files that a program may have.
 const MOST_FILES: usize = 256;
 
+/// What is asked of the program of some files.
+#[derive(Clone, Copy, Debug, PartialEq, Eq)]
+pub enum Question {
+    /// Whether they are one, and of how many components.
+    Check,
+    /// Its first page.
+    Render,
+    /// The frames of its first rendering.
+    Frames,
+}
+
 /// What the words of the command line ask for.
 #[derive(Debug, Drop)]
 pub enum Command {
-    /// Whether the files are a program, and of how many components.
-    Check {
+    Ask {
+        question: Question,
         files: Items<Txt>,
-    },
-    /// The first page of the component that a file spells.
-    Render {
-        file: Txt,
     },
     /// The transcript of a schedule over a program, whose root stands in the first of its files.
     Replay {
@@ -38,36 +45,34 @@ pub fn command_of(alloc: Global, words: &[Txt]) -> Result<Option<Command>, Oom>
     let [word, rest @ ..] = words else {
         return Ok(None);
     };
+    let Some(names) = names_in(alloc, rest)? else {
+        return Ok(None);
+    };
     if word.is("check") {
-        return Ok(names_in(alloc, rest)?.and_then(check_of));
+        return Ok(asked_of(Question::Check, names));
     }
     if word.is("render") {
-        return Ok(names_in(alloc, rest)?.and_then(render_of));
+        return Ok(asked_of(Question::Render, names));
+    }
+    if word.is("frames") {
+        return Ok(asked_of(Question::Frames, names));
     }
     if word.is("replay") {
-        return Ok(names_in(alloc, rest)?.and_then(replay_of));
+        return Ok(replay_of(names));
     }
     Ok(None)
 }
 
-fn check_of(names: Items<Txt>) -> Option<Command>
-    ensures { result ≡ check_of names }
+fn asked_of(question: Question, names: Items<Txt>) -> Option<Command>
+    ensures { result ≡ asked_of question names }
 {
     if names.is_empty() || names.len() > MOST_FILES {
         return None;
     }
-    Some(Command::Check { files: names })
-}
-
-fn render_of(names: Items<Txt>) -> Option<Command>
-    ensures { result ≡ render_of names }
-{
-    let mut names = names;
-    if names.len() != 1 {
-        return None;
-    }
-    let file = names.remove(0);
-    Some(Command::Render { file })
+    Some(Command::Ask {
+        question,
+        files: names,
+    })
 }
 
 fn replay_of(names: Items<Txt>) -> Option<Command>

@@ -1,24 +1,22 @@
 // What the words ask for.
-ghost use Rattle.std.specs.Prelude.{◌≡◌, ◌≤◌, ◌∷◌, [], IfOk, None};
+ghost use Rattle.std.specs.Prelude.{◌≡◌, ◌<◌, ◌≤◌, ◌∷◌, [], length, IfOk, None};
 ghost use Rattle.outside.specs.Faults.{Rose};
 ghost use Rattle.blazor_top.specs.Command.{command_of};
-ghost use Rattle.blazor_top.specs.Reply.{page_line, usage_line, IsOutput, Replies};
+ghost use Rattle.blazor_top.specs.Lines.{usage_line};
+ghost use Rattle.blazor_top.specs.Reply.{IsOutput, Replies};
 ghost use Rattle.blazor_top.specs.Stopping.{CommandOutput, CommandRefused, OnRefusal, Refuses};
 ghost use Rattle.blazor_top.specs.declared.command.Command.TheVariants as command;
 
-use crate::checking::checked;
-use crate::command::{Command, command_of};
-use crate::playing::{component_of, play};
-use crate::reading::{read_component, read_program, read_sources};
+use crate::asking::answer;
+use crate::command::{Command, Question, command_of};
+use crate::playing::play;
+use crate::reading::{read_program, read_sources};
 use crate::refusal::{Stop, refused_with};
-use crate::rendering::page_of;
 use crate::status::Status;
-use first_click::Component;
 use outside::Files;
-use page_core::print;
 use sqlite_items::Items;
 use std::alloc::Global;
-use text_core::{Oom, Txt};
+use text_core::Txt;
 
 /// The refusal of words that are no command.
 fn usage(alloc: Global) -> Stop
@@ -27,39 +25,22 @@ fn usage(alloc: Global) -> Stop
     refused_with(alloc, Status::Usage, "usage: blazor COMMAND ARGUMENTS")
 }
 
-/// Whether the files are a program.
-fn check<F: Files>(alloc: Global, files: &mut F, names: &[Txt]) -> Result<Vec<Txt>, Stop>
-    ensures output { IfOk result (λ lines. CommandOutput (F.held files.old) (command.Check names.now) lines.items) }
+/// Reads the files of a program, and answers a question about it.
+fn ask<F: Files>(
+    alloc: Global,
+    files: &mut F,
+    question: Question,
+    names: &[Txt],
+) -> Result<Vec<Txt>, Stop>
+    requires { 0 < length names.now }
+    ensures output { IfOk result (λ lines. CommandOutput (F.held files.old) (command.Ask question names.now) lines.items) }
     ensures refused { OnRefusal result (CommandRefused (F.held files.old)
-        (Rose (F.fault_count files.old) (F.fault_count files.new)) (command.Check names.now)) }
+        (Rose (F.fault_count files.old) (F.fault_count files.new)) (command.Ask question names.now)) }
     ensures same { F.held files.new ≡ F.held files.old }
     ensures later { F.fault_count files.old ≤ F.fault_count files.new }
 {
     let sources = read_program(alloc, files, names)?;
-    checked(alloc, &sources)
-}
-
-/// The page of a component, as the only line.
-fn page_lines(alloc: Global, component: &Component) -> Result<Vec<Txt>, Oom>
-    ensures { IfOk result (λ lines. lines.items ≡ page_line component.now ∷ []) }
-{
-    let line = print(alloc, &page_of(alloc, component)?)?;
-    let mut lines = Vec::new(alloc);
-    lines.push(line)?;
-    Ok(lines)
-}
-
-/// The page of the component that the file spells.
-fn render<F: Files>(alloc: Global, files: &mut F, file: &Txt) -> Result<Vec<Txt>, Stop>
-    ensures output { IfOk result (λ lines. CommandOutput (F.held files.old) (command.Render file.now) lines.items) }
-    ensures refused { OnRefusal result (CommandRefused (F.held files.old)
-        (Rose (F.fault_count files.old) (F.fault_count files.new)) (command.Render file.now)) }
-    ensures same { F.held files.new ≡ F.held files.old }
-    ensures later { F.fault_count files.old ≤ F.fault_count files.new }
-{
-    let bytes = read_component(alloc, files, file)?;
-    let component = component_of(alloc, file, &bytes)?;
-    Ok(page_lines(alloc, &component)?)
+    answer(alloc, question, &sources)
 }
 
 /// The transcript of the schedule over the program.
@@ -92,8 +73,12 @@ pub fn output_of<F: Files>(alloc: Global, words: &[Txt], files: &mut F) -> Resul
 {
     match command_of(alloc, words)? {
         None => Err(usage(alloc)),
-        Some(Command::Check { files: names }) => check(alloc, files, names.as_slice()),
-        Some(Command::Render { file }) => render(alloc, files, &file),
+        Some(
+            Command::Ask {
+                question,
+                files: names,
+            },
+        ) => ask(alloc, files, question, names.as_slice()),
         Some(
             Command::Replay {
                 schedule,

@@ -4,10 +4,10 @@ ghost use Rattle.std.specs.Fmt.{decimal};
 ghost use Rattle.plain_page.specs.Runnable.{IsRunnable};
 ghost use Rattle.schedule_replay.specs.Schedule.{schedule_of, IsSchedule};
 ghost use Rattle.blazor_top.specs.Program.{FileSpells};
-ghost use Rattle.blazor_top.specs.Reply.{refused_line};
 ghost use Rattle.blazor_top.specs.Stopping.{NoComponent, NoSchedule, OnRefusal, Plays, PlaysNot, Refuses};
 ghost use Rattle.blazor_top.specs.Transcript.{IsTranscriptOf};
 
+use crate::asking::not_yet;
 use crate::reading::Sources;
 use crate::refusal::{Refusal, Stop, about, ascii_line, refused_with};
 use crate::status::Status;
@@ -18,15 +18,8 @@ use sqlite_items::Items;
 use std::alloc::Global;
 use text_core::{Oom, Txt};
 
-/// The refusal of a file at which a program is none.
-fn not_yet(alloc: Global, name: &Txt) -> Stop
-    ensures { Refuses result Status.Refused (refused_line name.now) }
-{
-    about(alloc, Status::Refused, "refused NotYet ", name, " 1:1")
-}
-
 /// The component that a file of this name and these bytes spells.
-pub fn component_of(alloc: Global, name: &Txt, bytes: &[u8]) -> Result<Component, Stop>
+fn component_of(alloc: Global, name: &Txt, bytes: &[u8]) -> Result<Component, Stop>
     ensures spelled { IfOk result (FileSpells name.now bytes.now) }
     ensures refused { OnRefusal result (NoComponent name.now bytes.now) }
 {

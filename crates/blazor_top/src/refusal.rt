@@ -1,7 +1,7 @@
 // Refusals, and their lines.
 ghost use Rattle.std.specs.Prelude.{◌≡◌, IfOk, IsTrue};
 ghost use Rattle.text_core.specs.Ascii.{is_ascii};
-ghost use Rattle.blazor_top.specs.Reply.{line_about};
+ghost use Rattle.blazor_top.specs.Lines.{line_about};
 ghost use Rattle.blazor_top.specs.Stopping.{Refuses};
 
 use crate::status::Status;

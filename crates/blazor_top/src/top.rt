@@ -65,8 +65,8 @@ fn answer<F: Files, S: Sink>(alloc: Global, words: &[Txt], files: &mut F, out: &
 /// Does all that the program does: reads what the words name, writes what they ask for or why there is none, and says
 /// with which status the process is to end.
 pub fn run<F: Files, S: Sink>(alloc: Global, words: &[Txt], files: &mut F, out: &mut S) -> Finished
-    // What the words ask for is written whole: of how many components an accepted program is, the page of the fresh rendering of the component that the file spells, or the
-    // transcript of the schedule over that component.
+    // What the words ask for is written whole: of how many components an accepted program is, the page of the fresh rendering of its component, the frames of it, the fault
+    // that ends it, or the transcript of the schedule over a component.
     ensures answered { result.status ≡ 0 → Wrote (S.written out.old) (S.written out.new) (IsOutput words.now (F.held files.old)) }
 
     // Each refusal comes only for its cause, and its line is written whole.
@@ -94,7 +94,7 @@ pub fn run<F: Files, S: Sink>(alloc: Global, words: &[Txt], files: &mut F, out: 
     // There is no other status.
     ensures no_other { IsStatus result.status }
 
-    // So what is accepted is rendered or replayed, unless a count of faults rises or memory runs out.
+    // So what is accepted is answered or replayed, unless a count of faults rises or memory runs out.
     ensures completes { IsAccepted words.now (F.held files.old)
         → (Rose (F.fault_count files.old) (F.fault_count files.new) → ⊥)
         → (Rose (S.fault_count out.old) (S.fault_count out.new) → ⊥)

@@ -1,15 +1,14 @@
 // What each edit makes of the siblings that it acts on.
-ghost use Rattle.std.specs.Prelude.{◌≡◌, Result, Ok, Err, slice_get, option_copied};
+ghost use Rattle.std.specs.Prelude.{◌≡◌, Result, Ok, Err};
 ghost use Rattle.frame_core.specs.declared.edit.Edit.TheVariants as edit;
-ghost use Rattle.edit_meaning.specs.Edits.{acted, goes_on, edited, all_edited, with_attribute, without_attribute, with_text, with_markup, changed};
-ghost use Rattle.edit_meaning.specs.declared.browser_node.BrowserNode.TheViews.{out-BrowserNode};
+ghost use Rattle.edit_meaning.specs.Edits.{acted, goes_on, edited, all_edited};
 ghost use Rattle.browser_tree.specs.Answers.{Gives};
 ghost use Rattle.browser_tree.specs.Standing.{focus_of, Puts};
 
 use crate::component_tree::add_all;
 use crate::focus::{Focus, inserted};
 use crate::making::{add_components, make};
-use crate::names;
+use crate::nodes::{set_attribute, set_markup, set_text, unset_attribute};
 use crate::permutation::{apart, closed, move_all};
 use edit_meaning::{BrowserNode, Entry, Level};
 use frame_core::{Edit, WireAttribute, WireNode};
@@ -57,81 +56,6 @@ fn remove(batch: u64, sibling: u32, focus: Focus) -> Result<Focus, ApplyFault>
     }
     let _ = focus.here.remove(sibling as usize);
     Ok(focus)
-}
-
-fn set_attribute(node: BrowserNode, attribute: &WireAttribute) -> Result<BrowserNode, ApplyFault>
-    ensures { Gives (λ made. made) result (with_attribute attribute.now (out-BrowserNode node)) }
-{
-    match node {
-        BrowserNode::Element {
-            born,
-            name,
-            names,
-            children,
-        } => Ok(BrowserNode::Element {
-            born,
-            name,
-            names: names::set(names, attribute)?,
-            children,
-        }),
-        BrowserNode::Text { .. } => Err(ApplyFault::NotElement),
-        BrowserNode::Markup { .. } => Err(ApplyFault::NotElement),
-        BrowserNode::Component(_) => Err(ApplyFault::NotElement),
-    }
-}
-
-fn unset_attribute(node: BrowserNode, name: &Txt) -> Result<BrowserNode, ApplyFault>
-    ensures { Gives (λ made. made) result (without_attribute name.now (out-BrowserNode node)) }
-{
-    match node {
-        BrowserNode::Element {
-            born,
-            name: tag,
-            names,
-            children,
-        } => {
-            if !names::has(&names, name) {
-                return Err(ApplyFault::NoAttribute);
-            }
-            Ok(BrowserNode::Element {
-                born,
-                name: tag,
-                names: names::unset(names, name),
-                children,
-            })
-        }
-        BrowserNode::Text { .. } => Err(ApplyFault::NotElement),
-        BrowserNode::Markup { .. } => Err(ApplyFault::NotElement),
-        BrowserNode::Component(_) => Err(ApplyFault::NotElement),
-    }
-}
-
-fn set_text(node: BrowserNode, text: &Txt) -> Result<BrowserNode, ApplyFault>
-    ensures { Gives (λ made. made) result (with_text text.now (out-BrowserNode node)) }
-{
-    match node {
-        BrowserNode::Text { born, .. } => Ok(BrowserNode::Text {
-            born,
-            text: text.clone()?,
-        }),
-        BrowserNode::Element { .. } => Err(ApplyFault::NotText),
-        BrowserNode::Markup { .. } => Err(ApplyFault::NotText),
-        BrowserNode::Component(_) => Err(ApplyFault::NotText),
-    }
-}
-
-fn set_markup(node: BrowserNode, text: &Txt) -> Result<BrowserNode, ApplyFault>
-    ensures { Gives (λ made. made) result (with_markup text.now (out-BrowserNode node)) }
-{
-    match node {
-        BrowserNode::Markup { born, .. } => Ok(BrowserNode::Markup {
-            born,
-            text: text.clone()?,
-        }),
-        BrowserNode::Element { .. } => Err(ApplyFault::NotText),
-        BrowserNode::Text { .. } => Err(ApplyFault::NotText),
-        BrowserNode::Component(_) => Err(ApplyFault::NotText),
-    }
 }
 
 /// The focus with a node put in at a place.

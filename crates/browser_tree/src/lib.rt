@@ -13,6 +13,7 @@ mod focus;
 mod lists;
 mod making;
 mod names;
+mod nodes;
 mod permutation;
 mod showing;
 

@@ -174,20 +174,27 @@ fn keyed(alloc: Global, key: Code) -> Result<Operation, Oom> {
     })
 }
 
-fn counted(alloc: Global, limit: i32) -> Result<Operation, Oom> {
-    let test = Code::Binary(
-        BinaryOp::Less,
-        Boxed::new(alloc, Code::Local(0))?,
-        Boxed::new(alloc, Code::Int(limit))?,
-    );
+fn less(alloc: Global, limit: i32) -> Result<Code, Oom> {
+    let local = Boxed::new(alloc, Code::Local(0))?;
+    let limit = Boxed::new(alloc, Code::Int(limit))?;
+    Ok(Code::Binary(BinaryOp::Less, local, limit))
+}
+
+fn counting(alloc: Global, test: Code, body: Items<Operation>) -> Result<Operation, Oom> {
+    let start = Boxed::new(alloc, Code::Int(0))?;
     Ok(Operation::For {
         number: 0,
-        start: Some(Code::Declare(Boxed::new(alloc, Code::Int(0))?)),
+        start: Some(Code::Declare(start)),
         test: Some(test),
         step: Some(Code::Step(Variable::Local(0), StepOp::Increment)),
         keyed: Some(1),
-        body: all(alloc, [keyed(alloc, Code::Local(0))?])?,
+        body,
     })
+}
+
+fn counted(alloc: Global, limit: i32) -> Result<Operation, Oom> {
+    let body = all(alloc, [keyed(alloc, Code::Local(0))?])?;
+    counting(alloc, less(alloc, limit)?, body)
 }
 
 fn one_one(alloc: Global) -> Result<Code, Oom> {
@@ -234,6 +241,37 @@ fn divides(alloc: Global) -> Result<Operation, Oom> {
     Ok(Operation::Statement(Code::Perform(Boxed::new(alloc, quotient)?)))
 }
 
+fn branch(alloc: Global, truth: bool) -> Result<Operation, Oom> {
+    let holds = all(alloc, [text(alloc, "y")?])?;
+    let fails = all(alloc, [text(alloc, "n")?])?;
+    Ok(Operation::If {
+        test: Code::Bool(truth),
+        holds,
+        fails,
+    })
+}
+
+fn forever(alloc: Global) -> Operation {
+    Operation::While {
+        number: 0,
+        test: Code::Bool(true),
+        keyed: None,
+        body: Items::new(alloc),
+    }
+}
+
+fn statement(alloc: Global, form: Form) -> Result<Operation, Oom> {
+    match form {
+        Form::Counted(limit) => counted(alloc, limit),
+        Form::Twice => over(alloc, one_one(alloc)?),
+        Form::OverNull => over(alloc, Code::Null),
+        Form::Switch(number) => switch(alloc, number),
+        Form::If(truth) => branch(alloc, truth),
+        Form::Forever => Ok(forever(alloc)),
+        _ => divides(alloc),
+    }
+}
+
 fn operation(alloc: Global, form: Form) -> Result<Operation, Oom> {
     match form {
         Form::Element => dressed(alloc),
@@ -242,22 +280,7 @@ fn operation(alloc: Global, form: Form) -> Result<Operation, Oom> {
         Form::Shown(form) => Ok(content(form, Code::Bool(true))),
         Form::Fragment(_) => Ok(content(ContentForm::Fragment, Code::Field(0))),
         Form::NoFragment => Ok(content(ContentForm::Fragment, Code::Null)),
-        Form::Counted(limit) => counted(alloc, limit),
-        Form::Twice => over(alloc, one_one(alloc)?),
-        Form::OverNull => over(alloc, Code::Null),
-        Form::Switch(number) => switch(alloc, number),
-        Form::If(truth) => Ok(Operation::If {
-            test: Code::Bool(truth),
-            holds: all(alloc, [text(alloc, "y")?])?,
-            fails: all(alloc, [text(alloc, "n")?])?,
-        }),
-        Form::Forever => Ok(Operation::While {
-            number: 0,
-            test: Code::Bool(true),
-            keyed: None,
-            body: Items::new(alloc),
-        }),
-        Form::Divides => divides(alloc),
+        _ => statement(alloc, form),
     }
 }
 

@@ -1,8 +1,8 @@
 //! Laws of the pieces that printed components are cut into: they spell equal parts of a component again, places apart.
 //!
 //! Each function does nothing: its contract is the law. There are laws of content expressions, of values that are one expression behind
-//! an at sign, and of the attributes of tags. Nodes and whole components have none yet. The expression that a parameter's text spells
-//! is that of the text where it stands, which may be another where it stands more deeply.
+//! an at sign, and of the attributes of tags; nodes and whole components are for the layer above. The expression that a parameter's text
+//! spells is that of the text where it stands, which may be another where it stands more deeply.
 #![tactic(auto)]
 
 mod laws;

@@ -7,6 +7,7 @@
 #![tactic(auto)]
 
 mod bodies;
+mod components;
 mod declarations;
 mod elements;
 mod fault;

@@ -1,5 +1,5 @@
 use Rattle.blazor_top.proofs.StopLemmas.{handed_on, on_refuses, plays_none, plays_one, plays_not, none_at}
-use Rattle.blazor_top.specs.Reply.{refused_line}
+use Rattle.blazor_top.specs.Lines.{refused_line}
 use Rattle.blazor_top.specs.declared.status.Status.TheVariants as status
 use Rattle.std.proofs.Common.{rules, ◌≡◌, None}
 use Rattle.std.specs.Prelude.{slice_get}

@@ -3,7 +3,8 @@ use Rattle.std.specs.Fmt.{decimal}
 use Rattle.std.specs.Prelude.{codes}
 use Rattle.schedule_replay.specs.Schedule.{schedule_of}
 use Rattle.schedule_replay.specs.declared.schedule.ScheduleFault.TheVariants as fault
-use Rattle.blazor_top.specs.Reply.{too_large_line, unread, no_step}
+use Rattle.blazor_top.specs.Lines.{too_large_line}
+use Rattle.blazor_top.specs.Reply.{unread, no_step}
 use Rattle.blazor_top.specs.Stopping.{NoSchedule, wrong, many}
 use Rattle.blazor_top.specs.declared.status.Status.TheVariants as status
 use Rattle.blazor_top.proofs.StopLemmas.{on_refuses}

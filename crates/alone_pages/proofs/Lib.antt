@@ -1,0 +1,4 @@
+pub mod Tags
+pub mod Members
+pub mod Parts
+pub mod Pages

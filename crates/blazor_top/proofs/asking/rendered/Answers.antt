@@ -1,0 +1,12 @@
+use Rattle.std.proofs.Common.{◌≡◌, ℕ, List, rules, None}
+use Rattle.std.specs.Prelude.{Option}
+use Rattle.page_meaning.specs.Fresh.{fresh_alone}
+use Rattle.program_lines.specs.Lines.{Answers, page_lines}
+use Rattle.razor_ast.specs.declared.component.Component.{Component}
+use Rattle.blazor_top.proofs.AskingLemmas.{never_without}
+use Rattle.blazor_top.proofs.asking.rendered.Goals as goal
+
+pub unreachable-requires : goal.unreachable-requires
+unreachable-requires c =
+    never_without c.args.files.now c.args.components.now c.requires.sound c.in_ok-refuse_others.ensures.alone (λ component. page_lines (fresh_alone component))
+    (rw c.in-None.is at c.in_ok-lines.ensures)

@@ -1,0 +1,3 @@
+pub mod Compiles
+pub mod Programs
+pub mod Answers

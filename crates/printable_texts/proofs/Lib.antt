@@ -1,0 +1,16 @@
+pub mod TokenLaws
+pub mod CodeLaws
+pub mod LabelLaws
+pub mod ValueLaws
+pub mod SuppliedLaws
+pub mod AttributeLaws
+pub mod NodeLaws
+pub mod CodeBefore
+pub mod MembersBefore
+pub mod FileLaws
+pub mod Theorems
+pub mod OutsideLaws
+pub mod ContentGoes
+pub mod OutsideGoes
+pub mod TagGoes
+pub mod ValueGoes

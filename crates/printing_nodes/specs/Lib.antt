@@ -1,0 +1,2 @@
+pub mod AlikeNodes
+pub mod Answers

@@ -1,0 +1,11 @@
+pub mod Numbers
+pub mod Components
+pub mod Programs
+pub mod Instances
+pub mod Supplying
+pub mod Gifts
+pub mod Declared
+pub mod Targets
+pub mod EmptyTags
+pub mod Counting
+pub mod Accepted
