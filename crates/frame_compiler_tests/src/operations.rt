@@ -54,7 +54,7 @@ fn others(alloc: Global, rows: &[(&str, &str)]) -> Result<String, Oom> {
 }
 
 /// Each form once: files, and a piece of what they are compiled to.
-const ROWS: [(&str, &str); 14] = [
+const ROWS: [(&str, &str); 15] = [
     (
         "A.razor <p>@n</p>@code { int n; }",
         "Element { number: 0, name: Txt { text: \"p\" }, attributes: Items { items: [] }, children: Items { items: [Content { number: 1, form: Text, code: Field(0) }] } }",
@@ -98,6 +98,10 @@ const ROWS: [(&str, &str); 14] = [
     (
         "A.razor <CascadingValue Value=\"@n\">x</CascadingValue>@code { int n; }",
         "made: Provider { cs_type: Int, name: None }, parts: Items { items: [Value { place: 0, code: Field(0) }, Content { place: 2, number: 1, locals: Items { items: [] } }] }",
+    ),
+    (
+        "A.razor <CascadingValue Value=\"s\" Name=\"s\">x</CascadingValue>@code { string s = \"\"; }",
+        "made: Provider { cs_type: Text, name: Some(Txt { text: \"s\" }) }, parts: Items { items: [Value { place: 0, code: Field(0) }, Text { place: 1, text: Txt { text: \"s\" } }, Content",
     ),
     (
         "A.razor @code { int n; void OnInitialized() { } }",

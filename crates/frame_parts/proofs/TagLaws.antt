@@ -23,7 +23,7 @@ use Rattle.razor_ast.specs.declared.attribute.Given.TheVariants as given
 use Rattle.razor_ast.specs.declared.node.TNode.{TNode, TNode-F}
 use Rattle.razor_ast.specs.declared.node.TNode.TheVariants as nd
 use Rattle.razor_ast.specs.declared.node.TSection.{TSection}
-use Rattle.razor_rules.specs.Parameters.{Tagged, tagged, is_text, fragment_taken}
+use Rattle.razor_rules.specs.Parameters.{Tagged, tagged, fragment_taken}
 use Rattle.razor_rules.specs.Scopes.{Home}
 use Rattle.razor_rules.specs.Tags.{context_in, context_name}
 use Rattle.razor_rules.specs.Templates.{option_list}
@@ -53,22 +53,19 @@ module _ (home : Home) (s : Scope) (target : Target) where
   said_law number it place None before = step_judged (mismatch place) before
   said_law number it place (Some a) before = expression_law number it a before
 
-  given_law : (number : ℕ) (it : ℕ × CsType) (one : Given) (before : Numbered) → step (page_tags.given_gift home s target number it one) before ≡ spec.given_gift home s number it one before
-  given_law number it given.Nothing before = step_alone (given_text it.0 [] ∷ []) before
-  given_law number it (given.Text place said a) before =
-      elim (cases_Bool (is_text it.1)) [
-        | inl h ↦ rw h (step_alone (given_text it.0 said ∷ []) before)
-        | inr h ↦ rw h (said_law number it place a before)
-      ]
-  given_law number it (given.Value a) before = expression_law number it a before
+  given_law : (number : ℕ) (it : ℕ × CsType) (as_text : Bool) (one : Given) (before : Numbered) → step (page_tags.given_gift home s target number it as_text one) before ≡ spec.given_gift home s number it as_text one before
+  given_law number it as_text given.Nothing before = step_alone (given_text it.0 [] ∷ []) before
+  given_law number it true (given.Text place said a) before = step_alone (given_text it.0 said ∷ []) before
+  given_law number it false (given.Text place said a) before = said_law number it place a before
+  given_law number it as_text (given.Value a) before = expression_law number it a before
 
   parameter_law : (number : ℕ) (one : Given) (place : Place) (name : List ℕ) (before : Numbered) →
       step (page_tags.parameter_gift home s target number one place name) before ≡ spec.parameter_gift home s target number one place name before
   unfolding page_tags.parameter_gift
   parameter_law number one place name before =
-      then_by (resolved.judged (known UnknownParameter place (target.parameter name))) (λ it. page_tags.given_gift home s target number it one)
-      (steps.judged (known UnknownParameter place (target.parameter name))) (λ it. spec.given_gift home s number it one)
-      (step_judged (known UnknownParameter place (target.parameter name))) (λ it now. given_law number it one now) before
+      then_by (resolved.judged (known UnknownParameter place (target.parameter name))) (λ it. page_tags.given_gift home s target number it (page_tags.takes_text target name it.1) one)
+      (steps.judged (known UnknownParameter place (target.parameter name))) (λ it. spec.given_gift home s number it (page_tags.takes_text target name it.1) one)
+      (step_judged (known UnknownParameter place (target.parameter name))) (λ it now. given_law number it (page_tags.takes_text target name it.1) one now) before
 
   attribute_law : (kind : AttributeKind) (place : Place) (name : List ℕ) (before : Numbered) → step (page_tags.attribute_gift home s target kind place name) before ≡ spec.attribute_gift home s target kind place name before
   attribute_law (ak.Parameter number one) place name before = parameter_law number one place name before

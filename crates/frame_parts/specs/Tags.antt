@@ -1,6 +1,6 @@
 -- The tags of components.
 use Rattle.std.specs.List.{list_all}
-use Rattle.std.specs.Prelude.{ℕ, codes, List, [], ◌∷◌, ◌++◌, if◌then◌else◌, Option, None, Some}
+use Rattle.std.specs.Prelude.{ℕ, Bool, codes, List, [], ◌∷◌, ◌++◌, if◌then◌else◌, Option, None, Some}
 use Rattle.text_core.specs.declared.place.Place.{Place}
 use Rattle.cs_ast.specs.declared.cs_type.CsType.{CsType}
 use Rattle.cs_ast.specs.declared.expression.Expr.{Expr}
@@ -17,14 +17,14 @@ use Rattle.razor_ast.specs.declared.attribute.AttributeKind.{AttributeKind}
 use Rattle.razor_ast.specs.declared.attribute.AttributeKind.TheVariants as ak
 use Rattle.razor_ast.specs.declared.attribute.Given.{Given}
 use Rattle.razor_ast.specs.declared.attribute.Given.TheVariants as given
-use Rattle.razor_rules.specs.Parameters.{Tagged, tagged, is_text, fragment_taken}
+use Rattle.razor_rules.specs.Parameters.{Tagged, tagged, fragment_taken}
 use Rattle.razor_rules.specs.Scopes.{Home}
 use Rattle.razor_rules.specs.Tags.{context_in, context_name}
 use Rattle.page_meaning.specs.Captures.{used, positions_of}
 use Rattle.page_meaning.specs.Parts as page
 use Rattle.page_meaning.specs.Parts.{Part, Tag, any_does, content_of, counted, is_fragment_tag}
 use Rattle.page_meaning.specs.Resolved.{place_at}
-use Rattle.page_meaning.specs.Tags.{Target, target_of, supplied_code}
+use Rattle.page_meaning.specs.Tags.{Target, target_of, supplied_code, takes_text}
 use Rattle.frame_parts.specs.Order.{in_order}
 use Rattle.frame_parts.specs.Steps.{Steps, step, alone, judged, put_template, each_of, code_in, ◌>>=◌}
 
@@ -41,15 +41,15 @@ module _ (home : Home) (s : Scope) where
   if_said number it place None = judged (mismatch place)
   if_said number it place (Some a) = expression_gift number it a
 
-  abbrev pub given_gift : ℕ → ℕ × CsType → Given → Steps (List Gives)
-  given_gift number it given.Nothing = alone (given_text it.0 [] ∷ [])
-  given_gift number it (given.Text place said a) = if is_text it.1 then alone (given_text it.0 said ∷ []) else if_said number it place a
-  given_gift number it (given.Value a) = expression_gift number it a
+  abbrev pub given_gift : ℕ → ℕ × CsType → Bool → Given → Steps (List Gives)
+  given_gift number it as_text given.Nothing = alone (given_text it.0 [] ∷ [])
+  given_gift number it as_text (given.Text place said a) = if as_text then alone (given_text it.0 said ∷ []) else if_said number it place a
+  given_gift number it as_text (given.Value a) = expression_gift number it a
 
   abbrev pub parameter_gift : Target → ℕ → Given → Place → List ℕ → Steps (List Gives)
   parameter_gift target number given place name = do
     it ← judged (known UnknownParameter place (target.parameter name))
-    given_gift number it given
+    given_gift number it (takes_text target name it.1) given
 
   abbrev pub attribute_gift : Target → AttributeKind → Place → List ℕ → Steps (List Gives)
   attribute_gift target (ak.Parameter number given) place name = parameter_gift target number given place name

@@ -1,5 +1,5 @@
 -- What the crate's own values stand for in the definitions.
-use Rattle.std.specs.Prelude.{◌≡◌, ℕ, List, map, Option}
+use Rattle.std.specs.Prelude.{◌≡◌, ℕ, Bool, false, codes, bytes_eq, List, map, Option}
 use Rattle.cs_ast.specs.declared.cs_type.CsType.{CsType}
 use Rattle.drawing_meaning.specs.Acts.{Act}
 use Rattle.frame_program.specs.Operations.{act_of}
@@ -47,6 +47,10 @@ abbrev pub takes_view : Takes → List ℕ → Option (ℕ × CsType)
 takes_view (takes.Provider cs_type) name = provider_parameter cs_type name
 takes_view (takes.Component one) name = parameter_from one.now.members name 0
 
+abbrev pub reads_view : Takes → List ℕ → Bool
+reads_view (takes.Provider cs_type) name = bytes_eq name (codes "Value")
+reads_view (takes.Component one) name = false
+
 -- what a tag is the tag of
 abbrev pub target_view : Target → tags.Target
-target_view target = record { made = target.made; parameter = takes_view target.takes }
+target_view target = record { made = target.made; parameter = takes_view target.takes; reads = reads_view target.takes }

@@ -6,13 +6,14 @@ ghost use Rattle.cs_rules.specs.Judged.{known as known_spec};
 ghost use Rattle.frame_program.specs.Operations.{given_by};
 ghost use Rattle.frame_program.specs.declared.parts.TagPart.TheVariants as gift;
 ghost use Rattle.razor_rules.specs.Parameters.{is_text as is_text_spec};
+ghost use Rattle.page_meaning.specs.Tags.{takes_text as takes_text_spec};
 ghost use Rattle.frame_parts.specs.Tags as spec;
 ghost use Rattle.frame_parts.specs.Views.{IsWhole, home_in, found_view, numbered, target_view};
 
 use crate::callbacks::supplied;
 use crate::making::Making;
 use crate::site::Site;
-use crate::targets::{Found, Target, parameter};
+use crate::targets::{Found, Target, parameter, reads};
 use crate::values::code;
 use cs_ast::{CsType, Expr, Scope};
 use cs_forms::CheckFault;
@@ -110,18 +111,26 @@ fn if_said(
     }
 }
 
-/// What a parameter is given: its text where its type is a text's, else its expression.
+/// Whether a parameter of a name takes a text as it stands.
+fn takes_text(target: &Target<'_>, name: &Txt, cs_type: &CsType) -> bool
+    ensures { result ≡ takes_text_spec (target_view target.now) name.now cs_type.now }
+{
+    !reads(target, name) && is_text(cs_type)
+}
+
+/// What a parameter is given: its text where it takes a text as it stands, else its expression.
 fn given_gift(
     site: &Site<'_>,
     scope: &Scope,
     number: u32,
     found: &Found,
+    as_text: bool,
     given: &Given,
     making: &mut Making,
 ) -> Result<Items<TagPart>, CheckFault>
     requires whole { IsWhole site.now }
     ensures { AgreesBy (λ parts. (map given_by parts, numbered making.new)) result
-        (spec.given_gift (home_in site.now) scope.now number (found_view found.now) given.now (numbered making.old)) }
+        (spec.given_gift (home_in site.now) scope.now number (found_view found.now) as_text given.now (numbered making.old)) }
 {
     let alloc = site.home.alloc;
     match given {
@@ -131,7 +140,7 @@ fn given_gift(
             text,
             expression,
         } => {
-            if is_text(&found.cs_type) {
+            if as_text {
                 Ok(text_gift(alloc, found.place, text.clone()?)?)
             } else {
                 if_said(site, scope, number, found, *place, expression, making)
@@ -162,7 +171,8 @@ fn parameter_gift(
         (spec.parameter_gift (home_in site.now) scope.now (target_view target.now) number given.now one.now.place one.now.name (numbered making.old)) }
 {
     let found = known_parameter(site.home.alloc, target, one.place, &one.name)?;
-    given_gift(site, scope, number, &found, given, making)
+    let as_text = takes_text(target, &one.name, &found.cs_type);
+    given_gift(site, scope, number, &found, as_text, given, making)
 }
 
 fn attribute_gift(

@@ -96,6 +96,16 @@ pub fn parameter(alloc: Global, target: &Target<'_>, name: &Txt) -> Result<Optio
     }
 }
 
+/// Whether a text given to the parameter of a name is an expression whatever its type.
+pub fn reads(target: &Target<'_>, name: &Txt) -> bool
+    ensures { result ≡ (target_view target.now).reads name.now }
+{
+    match &target.takes {
+        Takes::Provider(_) => name.is("Value"),
+        Takes::Component(_) => false,
+    }
+}
+
 fn given_by(kind: &AttributeKind) -> Option<&Given>
     ensures { option_copied result ≡ page.given_by kind.now }
 {

@@ -1,5 +1,5 @@
 -- What the tag of a component comes to.
-use Rattle.std.specs.Prelude.{ℕ, ◌+◌, codes, List, [], ◌∷◌, if◌then◌else◌, Option, Some, None, option_map, bytes_eq}
+use Rattle.std.specs.Prelude.{ℕ, ◌+◌, Bool, false, not, ◌&&◌, codes, List, [], ◌∷◌, if◌then◌else◌, Option, Some, None, option_map, bytes_eq}
 use Rattle.text_core.specs.declared.place.Place.{Place}
 use Rattle.cs_ast.specs.declared.code.Code.{Code}
 use Rattle.cs_ast.specs.declared.cs_type.CsType.{CsType, out-CsType}
@@ -44,14 +44,20 @@ abbrev pub position_from : List Component → List ℕ → ℕ → Option ℕ
 position_from [] name position = None
 position_from (one ∷ others) name position = if bytes_eq one.name name then Some position else position_from others name (position + 1)
 
--- a component as its tags see it: what it is, and the places and types of its parameters
+-- A component as its tags see it: what it is, the places and types of its parameters, and of which of them a text is an expression
+-- whatever their type.
 pub record Target : Type 0 where
   pub made : Made
   pub parameter : List ℕ → Option (ℕ × CsType)
+  pub reads : List ℕ → Bool
 
 abbrev pub expression_code : Home → Scope → ℕ → CsType-F CsType → Expr → Resolves Code
 expression_code home s number (CsType-F.Callback argument) a = callback home s number a argument
 expression_code home s number _ a = value_code s a
+
+-- a parameter of a name and a type takes a text as it stands
+abbrev pub takes_text : Target → List ℕ → CsType → Bool
+takes_text target name cs_type = not (target.reads name) && is_text cs_type
 
 -- the code of an expression for a parameter of a type
 unfoldable pub supplied_code : Home → Scope → ℕ → CsType → Expr → Resolves Code
@@ -67,16 +73,16 @@ module _ (home : Home) (s : Scope) (target : Target) where
   if_said number it place None = judged (mismatch place)
   if_said number it place (Some a) = expression_gift number it a
 
-  -- what a parameter of a type is given by an attribute: its text where the type is a text's, else its expression
-  abbrev pub given_gift : ℕ → ℕ × CsType → Given → Resolves (List Gives)
-  given_gift number it given.Nothing = alone (given_text it.0 [] ∷ [])
-  given_gift number it (given.Text place said a) = if is_text it.1 then alone (given_text it.0 said ∷ []) else if_said number it place a
-  given_gift number it (given.Value a) = expression_gift number it a
+  -- what a parameter is given by an attribute: its text where it takes a text as it stands, else its expression
+  abbrev pub given_gift : ℕ → ℕ × CsType → Bool → Given → Resolves (List Gives)
+  given_gift number it as_text given.Nothing = alone (given_text it.0 [] ∷ [])
+  given_gift number it as_text (given.Text place said a) = if as_text then alone (given_text it.0 said ∷ []) else if_said number it place a
+  given_gift number it as_text (given.Value a) = expression_gift number it a
 
   unfoldable pub parameter_gift : ℕ → Given → Place → List ℕ → Resolves (List Gives)
   parameter_gift number given place name = do
     it ← judged (known UnknownParameter place (target.parameter name))
-    given_gift number it given
+    given_gift number it (takes_text target name it.1) given
 
   abbrev pub attribute_gift : AttributeKind → Place → List ℕ → Resolves (List Gives)
   attribute_gift (ak.Parameter number given) place name = parameter_gift number given place name
@@ -130,10 +136,10 @@ abbrev pub type_if_fine : Scope → Expr → Option CsType
 type_if_fine s a = elim (value_in s a) [ fine x ↦ own_type x.expr_type | breaks rule place ↦ None ]
 
 abbrev pub provider : List Attribute → CsType → Target
-provider attributes cs_type = record { made = made.Provider cs_type (bound_to (given_in attributes (codes "Name")) text_in); parameter = provider_parameter cs_type }
+provider attributes cs_type = record { made = made.Provider cs_type (bound_to (given_in attributes (codes "Name")) text_in); parameter = provider_parameter cs_type; reads = λ name. bytes_eq name (codes "Value") }
 
 abbrev pub component_at : ℕ → Component → Target
-component_at position one = record { made = made.Component position; parameter = λ name. parameter_from one.members name 0 }
+component_at position one = record { made = made.Component position; parameter = λ name. parameter_from one.members name 0; reads = λ name. false }
 
 -- what a tag of a name is the tag of, in a scope
 unfoldable pub target_of : List Component → Scope → List ℕ → List Attribute → Option Target

@@ -1,6 +1,6 @@
 -- Attributes of a component's tag that break no rule give what fits the types of the component's parameters.
 use Rattle.std.proofs.Common.{◌≡◌, ℕ, List, [], ◌∷◌, ◌++◌, refl, sym, ap, subst, ◌∙◌}
-use Rattle.std.specs.Prelude.{Bool, true, false, if◌then◌else◌, Option, Some, None}
+use Rattle.std.specs.Prelude.{Bool, true, false, not, ◌&&◌, if◌then◌else◌, Option, Some, None}
 use Rattle.std.specs.List.{flat_map}
 use Rattle.text_core.specs.declared.place.Place.{Place}
 use Rattle.cs_ast.specs.declared.code.Code.{Code}
@@ -32,7 +32,7 @@ use Rattle.razor_rules.specs.Tags.{attribute_rules}
 use Rattle.razor_rules.specs.Values.{value, supplied, supplied_by_level, callback}
 use Rattle.razor_rules.specs.Values as rule_value
 use Rattle.page_meaning.specs.Resolved.{alone, value_code}
-use Rattle.page_meaning.specs.Tags.{Target, supplied_code, expression_code, expression_gift, given_gift, parameter_gift, attribute_gift, attribute_gifts}
+use Rattle.page_meaning.specs.Tags.{Target, supplied_code, expression_code, expression_gift, given_gift, takes_text, parameter_gift, attribute_gift, attribute_gifts}
 use Rattle.page_typing.specs.Formed.{LambdaFormed}
 use Rattle.page_typing.specs.Homes.{surroundings, HomeFits}
 use Rattle.page_typing.specs.Resolving.{Resolved}
@@ -103,7 +103,7 @@ module _ (home : Home) (types : Types) (components : Bool) (fits : HomeFits type
     text_resolved place type said declared e =
         alone_resolved types components Fit (given_text place said ∷ []) (one_fits (given_text place said) (tags.text place said (declared ∙ ap (λ z. Some z) (text_is type (form type) e))))
 
-    given_resolved : (number place : ℕ) (type : CsType) (at_place : Place) (it : Given) (u : Unit {0}) → parameters place ≡ Some type → GivenFormed it → given_rules g type at_place it ≡ fine u → Resolved types components Fit (given_gift home g.scope target number (place, type) it)
+    given_resolved : (number place : ℕ) (type : CsType) (at_place : Place) (it : Given) (u : Unit {0}) → parameters place ≡ Some type → GivenFormed it → given_rules g type at_place it ≡ fine u → Resolved types components Fit (given_gift home g.scope target number (place, type) (is_text type) it)
     given_resolved number place type at_place given.Nothing u declared formed e = by (is_text type) refl e
       where
         by : (b : Bool) → is_text type ≡ b → (if b then literal_rules (supplied g type) given.Nothing else expression_of at_place given.Nothing >>= supplied g type) ≡ fine u → Resolved types components Fit (alone (given_text place [] ∷ []))
@@ -111,12 +111,12 @@ module _ (home : Home) (types : Types) (components : Bool) (fits : HomeFits type
         by false is e1 = absurd (cc)
     given_resolved number place type at_place (given.Text text_place said None) u declared formed e = by (is_text type) refl e
       where
-        by : (b : Bool) → is_text type ≡ b → (if b then literal_rules (supplied g type) (given.Text text_place said None) else expression_of at_place (given.Text text_place said None) >>= supplied g type) ≡ fine u → Resolved types components Fit (given_gift home g.scope target number (place, type) (given.Text text_place said None))
+        by : (b : Bool) → is_text type ≡ b → (if b then literal_rules (supplied g type) (given.Text text_place said None) else expression_of at_place (given.Text text_place said None) >>= supplied g type) ≡ fine u → Resolved types components Fit (given_gift home g.scope target number (place, type) (is_text type) (given.Text text_place said None))
         by true is e1 = rw is (text_resolved place type said declared is)
         by false is e1 = absurd (cc)
     given_resolved number place type at_place (given.Text text_place said (Some a)) u declared formed e = by (is_text type) refl e
       where
-        by : (b : Bool) → is_text type ≡ b → (if b then literal_rules (supplied g type) (given.Text text_place said (Some a)) else expression_of at_place (given.Text text_place said (Some a)) >>= supplied g type) ≡ fine u → Resolved types components Fit (given_gift home g.scope target number (place, type) (given.Text text_place said (Some a)))
+        by : (b : Bool) → is_text type ≡ b → (if b then literal_rules (supplied g type) (given.Text text_place said (Some a)) else expression_of at_place (given.Text text_place said (Some a)) >>= supplied g type) ≡ fine u → Resolved types components Fit (given_gift home g.scope target number (place, type) (is_text type) (given.Text text_place said (Some a)))
         by true is e1 = rw is (text_resolved place type said declared is)
         by false is e1 = rw is (expression_resolved number place type a u declared (formed a refl) e1)
     given_resolved number place type at_place (given.Value a) u declared formed e = by (is_text type) e
@@ -134,8 +134,9 @@ module _ (home : Home) (types : Types) (components : Bool) (fits : HomeFits type
         by None is u e1 = absurd (cc)
         by (Some one) is u e1 =
             let there = all_fit name one is in
-            after_judged types components Fit (known UnknownParameter place (target.parameter name)) (there.place, one.cs_type) (λ z. given_gift home g.scope target number z it) (ap (known UnknownParameter place) there.known)
-            (given_resolved number there.place one.cs_type place it u there.declared formed (sym (ap (λ (b : Bool). if b then given_rules g one.cs_type place it else fine (tt {0})) there.is_type) ∙ e1))
+            after_judged types components Fit (known UnknownParameter place (target.parameter name)) (there.place, one.cs_type) (λ z. given_gift home g.scope target number z (takes_text target name z.1) it) (ap (known UnknownParameter place) there.known)
+            (subst (λ b. Resolved types components Fit (given_gift home g.scope target number (there.place, one.cs_type) (not b && is_text one.cs_type) it)) (sym there.stands)
+              (given_resolved number there.place one.cs_type place it u there.declared formed (sym (ap (λ (b : Bool). if b then given_rules g one.cs_type place it else fine (tt {0})) there.is_type) ∙ e1)))
 
     key_resolved : (a : Expr) → found (rule_value.key g a) ≡ [] → Resolved types components Fit (attribute_gift home g.scope target (ak.Key a) (a.place) [])
     unfolding rule_value.key

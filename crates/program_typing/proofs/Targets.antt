@@ -66,6 +66,7 @@ module _ (components : List Component) (instances : ℕ → Option ℕ) (rules :
       let place_is : 0 + it.behind_it ≡ it.behind_it = omega arith in
       record {
         is_type = it.is_type;
+        stands = refl;
         place = it.behind_it;
         known = it.known ∙ ap (λ (n : ℕ). Some (n, takes.cs_type)) place_is;
         declared = ap (λ (o : Option Component). declared_at parameter_of o it.behind_it) there ∙ it.declared;

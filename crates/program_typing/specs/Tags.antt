@@ -1,5 +1,5 @@
 -- What the tag of a component gives, by the types of its parameters.
-use Rattle.std.specs.Prelude.{◌≡◌, ℕ, Bool, true, List, [], ◌∷◌, slice_get, Option, Some}
+use Rattle.std.specs.Prelude.{◌≡◌, ℕ, Bool, true, false, List, [], ◌∷◌, slice_get, Option, Some}
 use Rattle.cs_ast.specs.declared.code.Code.{Code}
 use Rattle.cs_ast.specs.declared.cs_type.CsType.{CsType}
 use Rattle.cs_ast.specs.declared.cs_type.CsType.TheVariants as t
@@ -67,6 +67,7 @@ pub record TargetFits (takes : List Takes) (target : Target) (parameters : Param
   pub is_type : one.is_type ≡ true
   pub place : ℕ
   pub known : target.parameter name ≡ Some (place, one.cs_type)
+  pub stands : target.reads name ≡ false
   pub declared : parameters place ≡ Some one.cs_type
 
 abbrev pub AllFit : List Takes → Target → Parameters → Type 0
