@@ -78,7 +78,7 @@ held component name holds ps text e is = has_value (record { text = text; is = s
 
 given : (said : List ℕ) → IsValueText said → IsGiven (text_quote said) said
 given _ pr.empty = su.empty
-given _ (pr.some c text is more) = su.some c text is more
+given _ (pr.some c text is stands) = su.some c text is stands
 
 value-form : (component : Bool) (name : List ℕ) (kind : AttributeKind) → IsKindOf component name kind → Valued component name (value_parts kind)
 unfolding value_parts

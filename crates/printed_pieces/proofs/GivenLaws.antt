@@ -1,8 +1,16 @@
 -- The text of a parameter is cut into pieces that say it.
-use Rattle.std.proofs.Common.{◌≡◌, ℕ, ◌+◌, Bool, true, false, List, [], ◌∷◌, ◌++◌, Some, refl, sym, ap, ◌∙◌, subst, append_assoc, append-nil, arith}
-use Rattle.std.specs.Prelude.{◌==◌}
+use Rattle.std.proofs.Common.{◌≡◌, ℕ, zero, suc, Bool, true, false, List, [], ◌∷◌, ◌++◌, length, Some, None, refl, sym, ap, ◌∙◌, subst, append_assoc, append-nil, arith}
+use Rattle.std.specs.declared.option.Option.{Option}
+use Rattle.std.specs.Prelude.{◌+◌, ◌==◌}
 use Rattle.std.specs.List.{list_all}
+use Rattle.cs_token.specs.declared.around.Around.{Around}
+use Rattle.cs_token.specs.declared.around.Opened.{Opened}
+use Rattle.cs_token.specs.declared.token.TokenKind.{TokenKind}
+use Rattle.cs_token.specs.Lexemes.{Stands}
+use Rattle.cs_token.specs.Places.{place_after}
 use Rattle.cs_token.specs.Reading.Runs.{strip}
+use Rattle.cs_token.specs.Spelling.{innermost, behind_kind}
+use Rattle.text_core.specs.declared.place.Place.{Place}
 use Rattle.razor_token.specs.declared.context.Context.{Context}
 use Rattle.razor_token.specs.declared.context.Context.TheVariants as x
 use Rattle.razor_token.specs.declared.context.Held.TheVariants as held
@@ -11,46 +19,18 @@ use Rattle.razor_token.specs.declared.piece.Quote.{Quote}
 use Rattle.razor_token.specs.declared.piece.Quote.TheVariants as q
 use Rattle.razor_token.specs.declared.runs.RunKind.{RunKind}
 use Rattle.razor_token.specs.Runs.{is_of, run}
-use Rattle.razor_token.specs.CodeFronts.{mark}
+use Rattle.razor_token.specs.CodeFronts.{mark, sign_of}
 use Rattle.razor_token.specs.ValueFronts.{quoted_run, text_at}
-use Rattle.razor_token.specs.Contexts.{stays}
+use Rattle.razor_token.specs.Contexts.{stays, enters}
 use Rattle.razor_token.specs.Pieces.{piece, literal}
-use Rattle.printed_pieces.specs.Cut.{between}
-use Rattle.printed_pieces.specs.Printable.{AreValueCharacters}
-use Rattle.printed_pieces.specs.Printable as pr
+use Rattle.razor_print.specs.ValueTexts.{depth_behind, stands_in}
+use Rattle.printed_pieces.specs.Cut.{within, between}
 use Rattle.printed_pieces.proofs.WalkLaws.{step-found}
-use Rattle.printed_pieces.proofs.LiteralLaws.{Saying, saying-one, saying-join, saying-nothing, run-front, some-literal, both, apart-from}
+use Rattle.printed_pieces.proofs.GoesLaws.{arounds, first, same-first, same-behind}
+use Rattle.printed_pieces.proofs.LiteralLaws.{Saying, saying-one, saying-join, saying-nothing, run-front, some-literal, both}
 use Rattle.printed_pieces.proofs.ValueLaws.{text-plain, mark-ends}
-
--- such a text by its at signs and the runs between them
-data Given (quote : Quote) : List ℕ → Type 0 where
-  nothing : Given quote []
-  two : (text : List ℕ) → Given quote text → Given quote (64 ∷ 64 ∷ text)
-  one : (c : ℕ) (text : List ℕ) → (c == 64) ≡ false → (c == 40) ≡ false → Given quote (c ∷ text) → Given quote (64 ∷ c ∷ text)
-  last : Given quote (64 ∷ [])
-  plain : (c : ℕ) (front back : List ℕ) → is_of (quoted_run quote) c ≡ true → list_all (is_of (quoted_run quote)) front ≡ true → run (quoted_run quote) back ≡ 0 → Given quote back → Given quote (c ∷ (front ++ back))
-
-no-at : (quote : Quote) (text : List ℕ) → run (quoted_run quote) (64 ∷ text) ≡ 0
-no-at q.Double text = refl
-no-at q.Single text = refl
-
-at-none : (quote : Quote) → is_of (quoted_run quote) 64 ≡ false
-at-none q.Double = refl
-at-none q.Single = refl
-
-grow : (quote : Quote) (c : ℕ) (text : List ℕ) → is_of (quoted_run quote) c ≡ true → Given quote text → Given quote (c ∷ text)
-grow quote c _ is nothing = plain c [] [] is refl refl nothing
-grow quote c _ is (two text v) = plain c [] (64 ∷ 64 ∷ text) is refl (no-at quote (64 ∷ text)) (two text v)
-grow quote c _ is (one d text e f v) = plain c [] (64 ∷ d ∷ text) is refl (no-at quote (d ∷ text)) (one d text e f v)
-grow quote c _ is last = plain c [] (64 ∷ []) is refl (no-at quote []) last
-grow quote c _ is (plain d front back here all stops v) = plain c (d ∷ front) back is (both (is_of (quoted_run quote) d) (list_all (is_of (quoted_run quote)) front) here all) stops v
-
-given : (quote : Quote) (text : List ℕ) → AreValueCharacters quote text → Given quote text
-given quote _ pr.no_character = nothing
-given quote _ (pr.character c text is more) = grow quote c text is (given quote text more)
-given quote _ (pr.two_at_signs text more) = two text (given quote text more)
-given quote _ (pr.at_sign c text is open_round more) = one c text (apart-from (quoted_run quote) c 64 is (at-none quote)) open_round (given quote (c ∷ text) more)
-given quote _ pr.last_at_sign = last
+use Rattle.printed_pieces.proofs.RawBrackets.{raws, raw-step}
+use Rattle.printed_pieces.proofs.ValueSteps.{Given, nothing, two, one, last, plain, opening, code, any_behind, given}
 
 -- what stands at the front
 
@@ -58,6 +38,11 @@ two-found : (quote : Quote) (rest : List ℕ) → text_at quote (64 ∷ 64 ∷ r
 unfolding text_at strip
 two-found q.Double rest = refl
 two-found q.Single rest = refl
+
+opening-found : (quote : Quote) (rest : List ℕ) → text_at quote (64 ∷ 40 ∷ rest) ≡ piece (k.Literal (64 ∷ 40 ∷ [])) 2 (enters (x.Bracket None true))
+unfolding text_at strip
+opening-found q.Double rest = refl
+opening-found q.Single rest = refl
 
 one-found : (quote : Quote) (c : ℕ) (rest : List ℕ) → (c == 64) ≡ false → (c == 40) ≡ false → text_at quote (64 ∷ c ∷ rest) ≡ piece (k.Literal (64 ∷ [])) 1 stays
 unfolding text_at strip
@@ -79,33 +64,73 @@ stops-behind kind (c ∷ back) rest here later = go (is_of kind c) refl
     go true e = absurd (some (rw e at here))
     go false e = rw e refl
 
+-- what holds where nothing of an interpolated text is open
+closed : (P : List Opened → Type 0) (opened : List Opened) → arounds opened ≡ [] → P [] → P opened
+closed P [] e is = is
+closed P (o ∷ opened) e is = absurd (cc)
+
+any-opened : (kind : Option TokenKind) (place : Place) (opened : List Opened) (open_ones : List Around) → arounds opened ≡ open_ones → arounds (behind_kind kind place opened) ≡ any_behind kind open_ones
+any-opened None place opened open_ones e = e
+any-opened (Some kind) place opened open_ones e = same-behind kind place opened ∙ ap (λ z. any_behind (Some kind) z) e
+
 module _ (cs : List Context) (quote : Quote) (rest : List ℕ) where
-  given-parts : (text : List ℕ) → Given quote text → (before : List ℕ)
-      → Saying (between (x.Value held.Text (Some quote) ∷ cs) before (text ++ mark quote ∷ rest)) text (between (x.Value held.Text (Some quote) ∷ cs) (before ++ text) (mark quote ∷ rest))
-  given-parts _ nothing before =
-      subst (λ z. Saying (between (x.Value held.Text (Some quote) ∷ cs) before (mark quote ∷ rest)) [] (between (x.Value held.Text (Some quote) ∷ cs) z (mark quote ∷ rest))) (sym (append-nil before)) (saying-nothing _)
-  given-parts _ (two text v) before =
-      subst (λ z. Saying (between (x.Value held.Text (Some quote) ∷ cs) before (64 ∷ 64 ∷ (text ++ mark quote ∷ rest))) (64 ∷ 64 ∷ text) (between (x.Value held.Text (Some quote) ∷ cs) z (mark quote ∷ rest))) (append_assoc before (64 ∷ 64 ∷ []) text)
-      (saying-join _ _ _ (64 ∷ 64 ∷ []) text
-      (saying-one _ _ (64 ∷ 64 ∷ []) (step-found (x.Value held.Text (Some quote) ∷ cs) [] before (64 ∷ 64 ∷ []) (text ++ mark quote ∷ rest) (k.Literal (64 ∷ 64 ∷ [])) stays (two-found quote (text ++ mark quote ∷ rest)) refl))
-      (given-parts text v (before ++ 64 ∷ 64 ∷ [])))
-  given-parts _ (one c text e f v) before =
-      subst (λ z. Saying (between (x.Value held.Text (Some quote) ∷ cs) before (64 ∷ c ∷ (text ++ mark quote ∷ rest))) (64 ∷ c ∷ text) (between (x.Value held.Text (Some quote) ∷ cs) z (mark quote ∷ rest))) (append_assoc before (64 ∷ []) (c ∷ text))
-      (saying-join _ _ _ (64 ∷ []) (c ∷ text)
-      (saying-one _ _ (64 ∷ []) (step-found (x.Value held.Text (Some quote) ∷ cs) [] before (64 ∷ []) (c ∷ (text ++ mark quote ∷ rest)) (k.Literal (64 ∷ [])) stays (one-found quote c (text ++ mark quote ∷ rest) e f) refl))
-      (given-parts (c ∷ text) v (before ++ 64 ∷ [])))
-  given-parts _ last before =
-      saying-one _ _ (64 ∷ []) (step-found (x.Value held.Text (Some quote) ∷ cs) [] before (64 ∷ []) (mark quote ∷ rest) (k.Literal (64 ∷ [])) stays (last-found quote rest) refl)
-  given-parts _ (plain c front back is all stops v) before =
+  -- in the value
+  abbrev value : List Context
+  value = x.Value held.Text (Some quote) ∷ cs
+
+  -- the text is said from here to the quote behind it
+  abbrev Said : ℕ → List Opened → List ℕ → List ℕ → Type 0
+  Said depth opened text before =
+      Saying (within (raws depth value) opened before (text ++ mark quote ∷ rest)) text (between value (before ++ text) (mark quote ∷ rest))
+
+  -- a front of the text, and the others
+  said-behind : (depth next : ℕ) (opened behind : List Opened) (front text before : List ℕ)
+      → Saying (within (raws depth value) opened before (front ++ (text ++ mark quote ∷ rest))) front (within (raws next value) behind (before ++ front) (text ++ mark quote ∷ rest))
+      → Said next behind text (before ++ front) → Said depth opened (front ++ text) before
+  said-behind depth next opened behind front text before here others =
+      subst (λ z. Saying (within (raws depth value) opened before z) (front ++ text) (between value (before ++ (front ++ text)) (mark quote ∷ rest))) (sym (append_assoc front text (mark quote ∷ rest)))
+      (subst (λ z. Saying (within (raws depth value) opened before (front ++ (text ++ mark quote ∷ rest))) (front ++ text) (between value z (mark quote ∷ rest))) (append_assoc before front text)
+      (saying-join _ _ _ front text here others))
+
+  given-parts : (depth : ℕ) (open_ones : List Around) (text : List ℕ) → Given quote (mark quote ∷ rest) depth open_ones text → (opened : List Opened) → arounds opened ≡ open_ones → (before : List ℕ) → Said depth opened text before
+  given-parts _ _ _ nothing opened e before =
+      closed (λ z. Said zero z [] before) opened e
+      (subst (λ z. Saying (between value before (mark quote ∷ rest)) [] (between value z (mark quote ∷ rest))) (sym (append-nil before)) (saying-nothing _))
+  given-parts _ _ _ (two text v) opened e before =
+      closed (λ z. Said zero z (64 ∷ 64 ∷ text) before) opened e
+      (said-behind zero zero [] [] (64 ∷ 64 ∷ []) text before
+      (saying-one _ _ (64 ∷ 64 ∷ []) (step-found value [] before (64 ∷ 64 ∷ []) (text ++ mark quote ∷ rest) (k.Literal (64 ∷ 64 ∷ [])) stays (two-found quote (text ++ mark quote ∷ rest)) refl))
+      (given-parts zero [] text v [] refl (before ++ 64 ∷ 64 ∷ [])))
+  given-parts _ _ _ (one c text f g v) opened e before =
+      closed (λ z. Said zero z (64 ∷ c ∷ text) before) opened e
+      (said-behind zero zero [] [] (64 ∷ []) (c ∷ text) before
+      (saying-one _ _ (64 ∷ []) (step-found value [] before (64 ∷ []) (c ∷ (text ++ mark quote ∷ rest)) (k.Literal (64 ∷ [])) stays (one-found quote c (text ++ mark quote ∷ rest) f g) refl))
+      (given-parts zero [] (c ∷ text) v [] refl (before ++ 64 ∷ [])))
+  given-parts _ _ _ last opened e before =
+      closed (λ z. Said zero z (64 ∷ []) before) opened e
+      (saying-one _ _ (64 ∷ []) (step-found value [] before (64 ∷ []) (mark quote ∷ rest) (k.Literal (64 ∷ [])) stays (last-found quote rest) refl))
+  given-parts _ _ _ (plain c front back is all stops v) opened e before =
       let more = back ++ mark quote ∷ rest in
       let ends = stops-behind (quoted_run quote) back (mark quote ∷ rest) stops (mark-ends quote rest) in
       let found = text-plain quote c (front ++ more) is
       ∙ ap (λ n. literal n ((c ∷ front) ++ more)) (run-front (quoted_run quote) (c ∷ front) more (both (is_of (quoted_run quote) c) (list_all (is_of (quoted_run quote)) front) is all) ends) ∙ some-literal c front more in
-      let first = saying-one _ _ (c ∷ front) (step-found (x.Value held.Text (Some quote) ∷ cs) [] before (c ∷ front) more (k.Literal (c ∷ front)) stays found refl) in
-      subst (λ z. Saying (between (x.Value held.Text (Some quote) ∷ cs) before z) ((c ∷ front) ++ back) (between (x.Value held.Text (Some quote) ∷ cs) (before ++ ((c ∷ front) ++ back)) (mark quote ∷ rest))) (sym (append_assoc (c ∷ front) back (mark quote ∷ rest)))
-      (subst (λ z. Saying (between (x.Value held.Text (Some quote) ∷ cs) before ((c ∷ front) ++ more)) ((c ∷ front) ++ back) (between (x.Value held.Text (Some quote) ∷ cs) z (mark quote ∷ rest))) (append_assoc before (c ∷ front) back)
-      (saying-join _ _ _ (c ∷ front) back first (given-parts back v (before ++ (c ∷ front)))))
+      closed (λ z. Said zero z ((c ∷ front) ++ back) before) opened e
+      (said-behind zero zero [] [] (c ∷ front) back before (saying-one _ _ (c ∷ front) (step-found value [] before (c ∷ front) more (k.Literal (c ∷ front)) stays found refl))
+      (given-parts zero [] back v [] refl (before ++ (c ∷ front))))
+  given-parts _ _ _ (opening text v) opened e before =
+      closed (λ z. Said zero z (64 ∷ 40 ∷ text) before) opened e
+      (said-behind zero (suc zero) [] [] (64 ∷ 40 ∷ []) text before
+      (saying-one _ _ (64 ∷ 40 ∷ []) (step-found value [] before (64 ∷ 40 ∷ []) (text ++ mark quote ∷ rest) (k.Literal (64 ∷ 40 ∷ [])) (enters (x.Bracket None true)) (opening-found quote (text ++ mark quote ∷ rest)) refl))
+      (given-parts (suc zero) [] text v [] refl (before ++ 64 ∷ 40 ∷ [])))
+  given-parts _ _ _ (code depth open_ones kind front text stands v) opened e before =
+      let around_is : first open_ones ≡ innermost opened = sym (ap first e) ∙ same-first opened in
+      let behind = behind_kind kind (place_after before) opened in
+      let here = raw-step depth value opened before front (text ++ mark quote ∷ rest) kind (subst (λ z. Stands z kind front (text ++ mark quote ∷ rest)) around_is stands) in
+      let others = given-parts (depth_behind (first open_ones) (sign_of kind) (suc depth)) (any_behind kind open_ones) text v behind (any-opened kind (place_after before) opened open_ones e) (before ++ front) in
+      said-behind (suc depth) (depth_behind (innermost opened) (sign_of kind) (suc depth)) opened behind front text before here
+      (subst (λ z. Said (depth_behind z (sign_of kind) (suc depth)) behind text (before ++ front)) around_is others)
 
-  pub given-saying : (text : List ℕ) → AreValueCharacters quote text → (before : List ℕ)
+  pub given-saying : (text : List ℕ) → stands_in quote text ≡ true → (before : List ℕ)
       → Saying (between (x.Value held.Text (Some quote) ∷ cs) before (text ++ mark quote ∷ rest)) text (between (x.Value held.Text (Some quote) ∷ cs) (before ++ text) (mark quote ∷ rest))
-  given-saying text h before = given-parts text (given quote text h) before
+  unfolding stands_in
+  given-saying text h before = given-parts zero [] text (given quote (mark quote ∷ rest) (length text) zero [] text (λ e. refl) h) [] refl before

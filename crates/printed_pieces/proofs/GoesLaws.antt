@@ -57,7 +57,7 @@ around_behind (t.Sign s.OpenBrace) open_ones = with_braces open_ones
 around_behind (t.Sign s.CloseBrace) open_ones = outer_of open_ones
 around_behind _ open_ones = open_ones
 
-same-first : (o : List Opened) → first (arounds o) ≡ code.innermost o
+pub same-first : (o : List Opened) → first (arounds o) ≡ code.innermost o
 same-first [] = refl
 same-first (opened ∷ o) = refl
 
@@ -69,7 +69,7 @@ same-braces : (place : Place) (o : List Opened) → arounds (code.with_brace pla
 same-braces place [] = refl
 same-braces place (opened ∷ o) = refl
 
-same-behind : (kind : TokenKind) (place : Place) (o : List Opened) → arounds (behind_kind (Some kind) place o) ≡ around_behind kind (arounds o)
+pub same-behind : (kind : TokenKind) (place : Place) (o : List Opened) → arounds (behind_kind (Some kind) place o) ≡ around_behind kind (arounds o)
 unfolding behind_sign
 same-behind (t.Sign s.InterpolationStart) place o = refl
 same-behind (t.Sign s.InterpolationEnd) place o = same-outer o

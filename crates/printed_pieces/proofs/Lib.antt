@@ -12,6 +12,9 @@ pub mod ShownLaws
 pub mod ValueLaws
 pub mod QuoteFree
 pub mod CodeValues
+pub mod MoreBehind
+pub mod RawBrackets
+pub mod ValueSteps
 pub mod GivenLaws
 pub mod SuppliedLaws
 pub mod AttributeLaws

@@ -8,7 +8,6 @@ use Rattle.cs_grammar.specs.Expressions.{SpelledExpression}
 use Rattle.cs_grammar.specs.Lambdas.{Spelled, SpelledValue}
 use Rattle.razor_token.specs.declared.context.Holds.TheVariants as h
 use Rattle.razor_token.specs.declared.piece.Quote.{Quote}
-use Rattle.razor_token.specs.Runs.{is_of}
 use Rattle.razor_token.specs.Tags.{held_by}
 use Rattle.razor_token.specs.ValueFronts.{quoted_run}
 use Rattle.razor_ast.specs.declared.attribute.Attribute.{Attribute}
@@ -18,6 +17,7 @@ use Rattle.razor_ast.specs.declared.attribute.Given.TheVariants as given
 use Rattle.razor_ast.specs.declared.attribute.ValuePart.{ValuePart}
 use Rattle.razor_ast.specs.declared.attribute.ValuePart.TheVariants as vp
 use Rattle.razor_print.specs.Quotes.{text_quote, mixed_quote}
+use Rattle.razor_print.specs.ValueTexts.{stands_in}
 use Rattle.printed_pieces.specs.Names.{IsAttributeName}
 use Rattle.printed_pieces.specs.Places.{is_said}
 use Rattle.printed_pieces.specs.Written.{IsWritten, Named}
@@ -28,18 +28,10 @@ pub data AreParts (quote : Quote) : Bool → List ValuePart → Type 0 where
   literal : (c : ℕ) (text : List ℕ) (ps : List ValuePart) → list_all (is_said (quoted_run quote)) (c ∷ text) ≡ true → AreParts quote true ps → AreParts quote false (vp.Literal (c ∷ text) ∷ ps)
   shown : (b : Bool) (a : Expr) (ps : List ValuePart) → IsWritten SpelledValue a → AreParts quote false ps → AreParts quote b (vp.Shown a ∷ ps)
 
--- characters of a parameter's text in these quotes: none is the quote, and no at sign stands before a bracket, unless two stand there
-pub data AreValueCharacters (quote : Quote) : List ℕ → Type 0 where
-  no_character : AreValueCharacters quote []
-  character : (c : ℕ) (text : List ℕ) → is_of (quoted_run quote) c ≡ true → AreValueCharacters quote text → AreValueCharacters quote (c ∷ text)
-  two_at_signs : (text : List ℕ) → AreValueCharacters quote text → AreValueCharacters quote (64 ∷ 64 ∷ text)
-  at_sign : (c : ℕ) (text : List ℕ) → is_of (quoted_run quote) c ≡ true → (c == 40) ≡ false → AreValueCharacters quote (c ∷ text) → AreValueCharacters quote (64 ∷ c ∷ text)
-  last_at_sign : AreValueCharacters quote (64 ∷ [])
-
--- the text of a parameter: no at sign stands first
+-- the text of a parameter: no at sign stands first, and the quote that ends it in its quotes stands behind it
 pub data IsValueText : List ℕ → Type 0 where
   empty : IsValueText []
-  some : (c : ℕ) (text : List ℕ) → is_of (quoted_run (text_quote (c ∷ text))) c ≡ true → AreValueCharacters (text_quote (c ∷ text)) text → IsValueText (c ∷ text)
+  some : (c : ℕ) (text : List ℕ) → (c == 64) ≡ false → stands_in (text_quote (c ∷ text)) (c ∷ text) ≡ true → IsValueText (c ∷ text)
 
 -- the value of an attribute of this name, on a component's tag or not
 pub data IsKindOf (component : Bool) (name : List ℕ) : AttributeKind → Type 0 where
