@@ -6,7 +6,6 @@ use Rattle.printing_nodes.proofs.Theorems.{component_again}
 use Rattle.razor_ast.specs.Components.{Spells}
 use Rattle.razor_ast.specs.declared.component.Component.{Component}
 use Rattle.razor_print.specs.Components.{component_text}
-use Rattle.text_expressions.proofs.TextExpressions.{answered}
 
 pub spelled_again : (printed : List ℕ) (a : Component) → printed ≡ component_text a → IsPrintable a → (text : List ℕ) → Spells text a → SpellsAgain printed a
-spelled_again printed a e printable text h = subst (λ z. SpellsAgain z a) (sym e) (component_again answered a printable text h)
+spelled_again printed a e printable text h = subst (λ z. SpellsAgain z a) (sym e) (component_again a printable text h)

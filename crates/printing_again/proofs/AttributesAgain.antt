@@ -10,7 +10,7 @@ use Rattle.razor_print.specs.Parts.{Parts}
 use Rattle.printed_pieces.specs.Meant.{Mean}
 use Rattle.printed_pieces.specs.Printable.{IsKindOf, ArePrintable}
 use Rattle.printed_pieces.specs.Printable as pr
-use Rattle.printing_again.specs.Again.{AttributeAgain, AttributesAgain, TextsAreRead}
+use Rattle.printing_again.specs.Again.{AttributeAgain, AttributesAgain}
 use Rattle.printing_again.proofs.ComponentsAgain.{component_again}
 use Rattle.printing_again.proofs.ElementsAgain.{element_again, key_again}
 
@@ -20,14 +20,14 @@ first-kind component _ _ (pr.another a others named is more) = is
 later-kinds : (component : Bool) (a : Attribute) (others : List Attribute) → ArePrintable component (a ∷ others) → ArePrintable component others
 later-kinds component _ _ (pr.another a others named is more) = more
 
-module _ (source around : Piece → List ℕ) (read : TextsAreRead) where
+module _ (source around : Piece → List ℕ) where
   tag_again : (component : Bool) (n m : ℕ) (ps rest : List Piece) (a : Attribute) → OfTag source component n ps rest m a → IsKindOf component a.name a.kind → (later : Parts) (us : List Piece) → Mean (attribute_parts a ++ later) us
       → AttributeAgain (OfTag around component) n m a later us
   tag_again _ _ _ _ _ _ (ga.of_element n m ps rest a h) is later us mean =
       let found = element_again n m ps rest a h is later us mean in
       record { space = found.space; us = found.us; rest = found.rest; other = found.other; split = found.split; blank = found.blank; spelled = ga.of_element n m found.us found.rest found.other found.spelled; alike = found.alike; mean = found.mean }
   tag_again _ _ _ _ _ _ (ga.of_component n m ps rest a h) is later us mean =
-      let found = component_again around read source n m ps rest a h is later us mean in
+      let found = component_again around source n m ps rest a h is later us mean in
       record { space = found.space; us = found.us; rest = found.rest; other = found.other; split = found.split; blank = found.blank; spelled = ga.of_component n m found.us found.rest found.other found.spelled; alike = found.alike; mean = found.mean }
   tag_again _ _ _ _ _ _ (ga.OfTag.key component n ps rest a h) is later us mean =
       let found = key_again n ps rest a component h is later us mean in

@@ -29,7 +29,8 @@ use Rattle.printed_pieces.specs.Meant as m
 use Rattle.printed_pieces.specs.Printable.{IsKindOf, ArePrintable}
 use Rattle.printed_pieces.specs.Printable as pr
 use Rattle.printed_pieces.specs.Written.{IsWritten}
-use Rattle.printing_again.specs.Again.{AttributeAgain, AttributesAgain, TextsAreRead}
+use Rattle.text_expressions.proofs.TextExpressions.{answered}
+use Rattle.printing_again.specs.Again.{AttributeAgain, AttributesAgain}
 use Rattle.printing_again.specs.Again as ag
 use Rattle.printing_again.proofs.MeantLaws.{first-piece}
 use Rattle.printing_again.proofs.PartsAgain.{first-verbatim, run-says, stops}
@@ -54,7 +55,7 @@ first-supplied _ _ _ _ _ (m.supplied quote text a v e later us ps starts says en
 value-of : (component : Bool) (name : List ℕ) (n : ℕ) (a : Expr) → IsKindOf component name (ak.Parameter n (given.Value a)) → IsWritten Spelled a
 value-of component name _ _ (pr.value n a e is) = is
 
-module _ (around : Piece → List ℕ) (read : TextsAreRead) where
+module _ (around : Piece → List ℕ) where
   nothing-again : (n : ℕ) (x : List ℕ) (place : Place) (later : Parts) (ps : List Piece) → begins_at x ≡ false → (x ≡ codes "Context" → ⊥)
       → Mean (attribute_parts (record { place = place; name = x; kind = ak.Parameter n given.Nothing }) ++ later) ps
       → AttributeAgain (OfComponent around) n (n + 1) (record { place = place; name = x; kind = ak.Parameter n given.Nothing }) later ps
@@ -84,7 +85,7 @@ module _ (around : Piece → List ℕ) (read : TextsAreRead) where
       let value = first-supplied (text_quote said) said a later p.rest p.mean in
       let inner = value.us ++ value.end ∷ value.rest in
       let run : literal_run inner ≡ (said, value.end ∷ value.rest) = run-says said value.us (value.end ∷ value.rest) value.says (stops k.ValueEnd value.end value.rest value.ends refl) in
-      let found = read (around value.v) (place_of inner) said in
+      let found = answered (around value.v) (place_of inner) said in
       record {
         space = space.p;
         us = p.p ∷ value.v ∷ inner;

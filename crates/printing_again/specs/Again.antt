@@ -13,7 +13,6 @@ use Rattle.razor_ast.specs.declared.attribute.ValuePart.{ValuePart}
 use Rattle.razor_ast.specs.declared.attribute.ValuePart.TheVariants as vp
 use Rattle.razor_ast.specs.Attributes.{KeyOf, SomeAttributes}
 use Rattle.razor_ast.specs.Pieces.{IsKind}
-use Rattle.razor_ast.specs.TextValues.{IsExpressionOf}
 use Rattle.razor_print.specs.Parts.{Parts}
 use Rattle.printed_pieces.specs.Meant.{Mean}
 
@@ -64,10 +63,6 @@ pub record AttributeAgain (Tree : ℕ → List Piece → List Piece → ℕ → 
 -- a key has no number
 abbrev pub IsKey : ℕ → List Piece → List Piece → ℕ → Attribute → Type 0
 IsKey n ps rest m a = KeyOf ps rest a
-
--- of each text it is known which expression it spells where it stands, or that it spells none
-abbrev pub TextsAreRead : Type 0
-TextsAreRead = (around : List ℕ) (begin : Place) (text : List ℕ) → (a : Option Expr) × IsExpressionOf around begin text a
 
 -- The pieces up to some rest spell attributes of a tag, which is a component's or not, that are equal to these, apart from places, with
 -- the same numbers before and behind them. The first argument gives what is open at a piece.

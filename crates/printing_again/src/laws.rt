@@ -6,7 +6,7 @@ ghost use Rattle.cs_print.specs.Printed.{whole, printed};
 ghost use Rattle.printed_pieces.specs.Meant.{Mean};
 ghost use Rattle.printed_pieces.specs.Printable.{ArePrintable, IsKindOf};
 ghost use Rattle.printed_pieces.specs.Written.{IsWritten};
-ghost use Rattle.printing_again.specs.Again.{AttributeAgain, AttributesAgain, SpellsAgain, TextsAreRead};
+ghost use Rattle.printing_again.specs.Again.{AttributeAgain, AttributesAgain, SpellsAgain};
 ghost use Rattle.razor_ast.specs.Attributes.{EventValue, Led, OfElement, SomeAttributes};
 ghost use Rattle.razor_ast.specs.Shown.{Shown};
 ghost use Rattle.razor_ast.specs.declared.attribute.Attribute.{Attribute as Given};
@@ -39,9 +39,9 @@ pub fn a_printed_attribute_of_an_element_is_spelled_again()
         → (later : PrintedParts) (pieces : List Part) → Mean (attribute_parts a ++ later) pieces → AttributeAgain OfElement n m a later pieces }
 {}
 
-/// The same of all attributes of a tag, where of each text it is known which expression it spells.
+/// The same of all attributes of a tag.
 pub fn printed_attributes_are_spelled_again()
-    ensures { (source : Part → List ℕ) (around : Part → List ℕ) → TextsAreRead → (component : Bool) (n : ℕ) (m : ℕ) (ps : List Part) (rest : List Part) (all : List Given)
+    ensures { (source : Part → List ℕ) (around : Part → List ℕ) → (component : Bool) (n : ℕ) (m : ℕ) (ps : List Part) (rest : List Part) (all : List Given)
         → SomeAttributes source component n ps rest m all → ArePrintable component all
         → (later : PrintedParts) (pieces : List Part) → Mean (attributes_parts all ++ later) pieces → AttributesAgain around component n m all later pieces }
 {}

@@ -19,7 +19,6 @@ use Rattle.razor_print.specs.Parts.{Parts}
 use Rattle.printed_pieces.specs.Meant.{Mean}
 use Rattle.printed_pieces.specs.Written.{IsWritten}
 use Rattle.printed_pieces.proofs.NodeParts.{text-leaves}
-use Rattle.printing_again.specs.Again.{TextsAreRead}
 use Rattle.printing_again.proofs.PartsAgain.{first-said, run-says, stops}
 use Rattle.printing_nodes.specs.AlikeNodes.{AlikeContent}
 use Rattle.printing_nodes.specs.AlikeNodes as al
@@ -171,7 +170,7 @@ module _ (around : Piece → List ℕ) where
           (item-alone after n a nodes members before e us (subst (λ z. Mean (file_parts before (z ++ a ∷ nodes) members) us) none mean)
           (let same : n + length texts ≡ n = ap (λ z. n + length z) none ∙ omega arith in subst (λ z. ReadsItem after z members a nodes) same reads))
 
-module _ (source around : Piece → List ℕ) (read : TextsAreRead) (members : List Member) (written : IsWritten SpelledMembers members) where
+module _ (source around : Piece → List ℕ) (members : List Member) (written : IsWritten SpelledMembers members) where
   pub file_again : (edge : Bool) (n : ℕ) (ps : List Piece) (disposes : Bool) (found : List Member) (nodes : List TNode) → Whole source edge n ps disposes found nodes → AllKnown nodes → (before : Before) (e : Bool) (us : List Piece)
       → (e ≡ true → edge ≡ true) → (is_text before ≡ true → edge ≡ true) → Mean (file_parts before nodes members) us → FileAgain around (is_text before) e n members nodes us
   file_again _ _ _ _ _ _ (g.last edge n text ps run) known before e us less text_edge mean =
@@ -184,7 +183,7 @@ module _ (source around : Piece → List ℕ) (read : TextsAreRead) (members : L
       let plain = item-leaves source (n + length texts) (p ∷ us) vs m a one in
       item-file around edge (is_edge p.kind) n (place_of ps) text texts a nodes members before e ws is less text_edge mean
       (λ b xs here.
-      let y = item-again source around read (n + length texts) (p ∷ us) vs m a one all.0 (file_parts (node a).leaves nodes members) xs (item-here around a nodes members b xs plain here) in
+      let y = item-again source around (n + length texts) (p ∷ us) vs m a one all.0 (file_parts (node a).leaves nodes members) xs (item-here around a nodes members b xs plain here) in
       let z = file_again (is_edge p.kind) m vs disposes found nodes more all.1 (node a).leaves (is_edge p.kind) y.rest (λ i. i) (λ i. absurd (false≢true (sym plain ∙ i))) y.mean in
       record {
         i = m;

@@ -27,7 +27,6 @@ use Rattle.printed_pieces.specs.Meant.{Mean}
 use Rattle.printed_pieces.specs.PrintableNodes.{LinesPrint}
 use Rattle.printed_pieces.specs.Written.{IsWritten}
 use Rattle.printed_pieces.proofs.NodeParts.{section-law}
-use Rattle.printing_again.specs.Again.{TextsAreRead}
 use Rattle.printing_again.proofs.AttributesAgain.{attributes_again}
 use Rattle.printing_again.proofs.MeantLaws.{first-piece}
 use Rattle.printing_again.proofs.PartsAgain.{stops}
@@ -43,7 +42,7 @@ use Rattle.printing_nodes.proofs.Results.{InsideAgain, TagAgain, ItemAgain, Code
 use Rattle.printing_nodes.proofs.TagLaws.{bound_alike, node-tag, knows-tag, alike-tag, tag-is, tag-content, tag-edge, content-none, inside-of, group-of}
 use Rattle.printing_nodes.proofs.TextsAgain.{texts-again, first-node, alike-join}
 
-module _ (source around : Piece → List ℕ) (read : TextsAreRead) where
+module _ (source around : Piece → List ℕ) where
   -- no content
   nothing-read : (n : ℕ) (us : List Piece) → literal_run us ≡ ([], us) → Content around true n us us n []
   nothing-read n us e = let same : n + 0 ≡ n = omega arith in subst (λ z. Content around true n us us z []) same (gn.last_text true n [] us us [] e refl)
@@ -63,7 +62,7 @@ module _ (source around : Piece → List ℕ) (read : TextsAreRead) where
         let known = knows-tag b n p name all children knows in
         let here = subst (λ z. Mean (z ++ later) xs) (ap (λ (z : Printed). z.code) (node-tag b n p name all children) ∙ tag-is name all (map node children)) mean in
         let first = first-piece (k.TagStart name) (60 ∷ name) ((attributes_parts all ++ inside name (map node children)) ++ later) xs here in
-        let found = attributes_again source around read b (n + 1) i ps us all attributes.spelled known.0 (inside name (map node children) ++ later) first.rest
+        let found = attributes_again source around b (n + 1) i ps us all attributes.spelled known.0 (inside name (map node children) ++ later) first.rest
         (subst (λ z. Mean z first.rest) (append_assoc (attributes_parts all) (inside name (map node children)) later) first.mean) in
         let x = inside-again name i vs rest m children inner (content-known false children known.1) later found.rest found.mean in
         record {

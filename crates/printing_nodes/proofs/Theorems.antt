@@ -18,7 +18,6 @@ use Rattle.razor_print.specs.Parts.{Parts}
 use Rattle.printed_pieces.specs.Meant.{Mean}
 use Rattle.printed_pieces.specs.PrintableNodes.{IsPrintable}
 use Rattle.printed_pieces.proofs.Theorems.{component_cut}
-use Rattle.printing_again.specs.Again.{TextsAreRead}
 use Rattle.printing_again.proofs.MeantLaws.{first-piece}
 use Rattle.printing_again.proofs.PartsAgain.{stops}
 use Rattle.printing_nodes.specs.AlikeNodes.{AlikeContent}
@@ -51,13 +50,13 @@ from-top around true members nodes parts us mean reads =
       alike = x.alike;
     }
 
-pub component_again : TextsAreRead → (a : Component) → IsPrintable a → (text : List ℕ) → Spells text a → SpellsAgain (component_text a) a
+pub component_again : (a : Component) → IsPrintable a → (text : List ℕ) → Spells text a → SpellsAgain (component_text a) a
 unfolding component_parts
-component_again read a printable text h =
+component_again a printable text h =
     let cut = component_cut a printable in
     let around = open_at cut.pieces in
     let x = from-top around a.disposes a.members a.nodes (file_parts before.Other a.nodes a.members) (counted cut.pieces) cut.mean
-    (λ vs mean. file_again (open_at h.pieces) around read a.members printable.members true 0 (counted h.pieces) a.disposes a.members a.nodes h.spelled (file-known a.nodes printable.nodes) before.Other true vs (λ e. e) (λ e. absurd (false≢true e)) mean) in
+    (λ vs mean. file_again (open_at h.pieces) around a.members printable.members true 0 (counted h.pieces) a.disposes a.members a.nodes h.spelled (file-known a.nodes printable.nodes) before.Other true vs (λ e. e) (λ e. absurd (false≢true e)) mean) in
     record {
       other = record { name = a.name; disposes = a.disposes; members = x.member_others; nodes = x.others };
       spelled = record { pieces = cut.pieces; cut = cut.cut; spelled = x.spelled };

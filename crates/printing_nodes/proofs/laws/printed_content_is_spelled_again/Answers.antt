@@ -5,5 +5,5 @@ use Rattle.razor_print.specs.declared.before.Before.TheVariants as before
 use Rattle.std.proofs.Common.{false}
 
 pub returns : goal.returns
-returns c = λ source around read edge n m ps rest nodes spells prints later pieces stop mean.
-    content_again source around read edge n ps rest m nodes spells (content-known false nodes prints) before.Other later pieces stop mean
+returns c = λ source around edge n m ps rest nodes spells prints later pieces stop mean.
+    content_again source around edge n ps rest m nodes spells (content-known false nodes prints) before.Other later pieces stop mean
