@@ -27,11 +27,11 @@ use Rattle.printed_pieces.specs.Names.{IsAttributeName}
 use Rattle.printed_pieces.specs.Printable.{IsKindOf, ArePrintable}
 use Rattle.printed_pieces.specs.Printable as printable
 use Rattle.printed_pieces.specs.Written.{AreProper, IsLexeme, IsWritten}
-use Rattle.printable_texts.specs.Stands.{Where, tag, named, value, begins, Stands}
-use Rattle.printable_texts.proofs.TokenLaws.{codes_stand, step, proper_front, proper_behind}
+use Rattle.printable_texts.specs.Stands.{Where, tag, named, value, Supplies, Stands}
+use Rattle.printable_texts.proofs.TokenLaws.{codes_stand, step, led, proper_front, proper_behind}
 use Rattle.printable_texts.proofs.CodeLaws.{lexeme_named, first_lexeme}
 use Rattle.printable_texts.proofs.ValueLaws.{parts_are, mixed_parts, quote_of}
-use Rattle.printable_texts.proofs.SuppliedLaws.{value_text, text_rest, name_written}
+use Rattle.printable_texts.proofs.SuppliedLaws.{text_rest, name_written}
 
 -- behind the attributes of a tag
 pub data Behind_attributes (component void : Bool) : List Piece → Type 0 where
@@ -91,10 +91,10 @@ held_event component _ (AttributeNames.event (c ∷ name) some all) = refl
 
 -- a value behind its name
 begun : (component void : Bool) (x : List ℕ) (p v : Piece) (ps : List Piece) → IsKind (k.AttributeName x) p → (quote : Option Quote) → IsKind (k.ValueStart quote) v → Stands (tag component void) (p ∷ v ∷ ps)
-    → IsAttributeName x × Stands (value component void (held_by component x) quote begins) ps
+    → IsAttributeName x × Stands (value component void (held_by component x) quote) ps × Supplies (held_by component x) ps
 begun component void x p v ps is quote starts here =
     let name = step (tag component void) (k.AttributeName x) p (v ∷ ps) is here in
-    (name.0, (step (named component void x) (k.ValueStart quote) v ps starts name.2).2)
+    (name.0, (step (named component void x) (k.ValueStart quote) v ps starts name.2).2, led (named component void x) (k.ValueStart quote) v ps starts name.2)
 
 -- code behind an at sign
 behind_written : (ts : List Token) (a : Expr) → Behind ts a → AreProper ts → IsWritten Spelled a
@@ -102,7 +102,7 @@ behind_written ts a (spelled.whole _ _ h) proper = record { tokens = ts; proper 
 behind_written _ a (spelled.in_round o c ts _ _ h _) proper = record { tokens = ts; proper = proper_front ts (c ∷ []) (proper_behind (o ∷ []) (ts ++ c ∷ []) proper); tree = h }
 
 abbrev At : Bool → Bool → Holds → Option Quote → Where
-At component void holds quote = value component void holds quote begins
+At component void holds quote = value component void holds quote
 
 led_written : (component void : Bool) (holds : Holds) (quote : Option Quote) (ps rest : List Piece) (a : Expr) → Led ps rest a → Stands (At component void holds quote) ps → IsWritten Spelled a × Stands (tag component void) rest
 led_written component void holds quote _ rest a (spelled.quoted at end ts _ _ marks h ends) here =
@@ -133,7 +133,7 @@ of_element void n m _ rest _ (spelled.no_value _ x p _ is plain) here =
     record { named_so = name.0; kind = printable.mixed n [] (held_mixed x plain) (printable.no_part false); behind_it = behind_a_name x rest name.2 }
 of_element void n m _ rest _ (spelled.mixed _ x p v ps _ parts is plain starts h) here =
     let value_in = begun false void x p v ps is starts.0 starts.1 here in
-    let found = parts_are false void starts.0 false ps rest parts h (begins, subst (λ z. Stands (At false void z starts.0) ps) (held_mixed x plain) value_in.1) (λ e. absurd (false≢true e)) in
+    let found = parts_are false void starts.0 false ps rest parts h (subst (λ z. Stands (At false void z starts.0) ps) (held_mixed x plain) value_in.1) (λ e. absurd (false≢true e)) in
     record { named_so = value_in.0; kind = printable.mixed n parts (held_mixed x plain) (mixed_parts (quote_of starts.0) parts found.0); behind_it = in_tag rest found.1 }
 of_element void n m _ rest _ (spelled.event _ x p v ps _ a is named_on starts h) here =
     let value_in = begun false void x p v ps is starts.0 starts.1 here in
@@ -158,8 +158,9 @@ of_component around void n m _ rest _ (spelled.no_value _ x p _ is plain other) 
     record { named_so = name.0; kind = printable.nothing n; behind_it = behind_a_name x rest name.2 }
 of_component around void n m _ rest _ (spelled.text _ x said p v ps _ a is plain other starts h means) here =
     let value_in = begun true void x p v ps is starts.0 starts.1 here in
-    let found = value_text true void starts.0 ps rest said h (subst (λ z. Stands (At true void z starts.0) ps) (held_supplied x plain other) value_in.1) in
-    record { named_so = value_in.0; kind = printable.text n (place_of ps) said a (held_supplied x plain other) found.0; behind_it = in_tag rest found.1 }
+    let found = text_rest true void (held_by true x) starts.0 ps rest said h value_in.1 in
+    let said_so = subst (λ z. Supplies z ps) (held_supplied x plain other) value_in.2 rest said h in
+    record { named_so = value_in.0; kind = printable.text n (place_of ps) said a (held_supplied x plain other) said_so; behind_it = in_tag rest found }
 of_component around void n m _ rest _ (spelled.value _ x p v ps _ a is plain other starts h) here =
     let value_in = begun true void x p v ps is starts.0 starts.1 here in
     let found = led_written true void (held_by true x) starts.0 ps rest a h value_in.1 in

@@ -22,8 +22,8 @@ use Rattle.printed_pieces.specs.Places.{is_said}
 use Rattle.printed_pieces.specs.PrintableNodes.{content_text, FilePrints}
 use Rattle.printed_pieces.specs.PrintableNodes as prints
 use Rattle.printed_pieces.specs.Written.{begins_part, no_token, IsWritten}
-use Rattle.printable_texts.specs.Stands.{content, Stands, one_more, is_before_part}
-use Rattle.printable_texts.proofs.TokenLaws.{codes_stand, begun, step, proper_front, proper_behind, proper_both}
+use Rattle.printable_texts.specs.Stands.{content, Stands, one_more, is_no_lead}
+use Rattle.printable_texts.proofs.TokenLaws.{codes_stand, begins_codes, step, proper_front, proper_behind, proper_both}
 use Rattle.printable_texts.proofs.NodeLaws.{run_of_text, item_prints}
 use Rattle.printable_texts.proofs.MembersBefore.{members_both}
 
@@ -70,7 +70,7 @@ members_more first others one more =
     }
 
 behind_brace : (o : Token) (ts : List Token) (us : List Piece) → o.kind ≡ t.Sign s.OpenBrace → Stands content (codes_of (o ∷ ts) ++ us) → begins_part ts ≡ false
-behind_brace o ts us is (one_more _ _ _ _ _ apart _) = begun ts us (is_before_part (k.Code o.kind)) apart (ap (λ z. is_before_part (k.Code z)) is)
+behind_brace o ts us is (one_more _ _ _ _ _ _ apart _) = begins_codes ts us (apart (ap (λ z. is_no_lead (k.Code z)) is))
 
 block_written : (ts : List Token) (us : List Piece) (all : List Member) → SpelledBlock ts all → Stands content (codes_of ts ++ us) → MembersWritten all × Stands content us
 block_written _ us all (spelled.block o c ts _ is h _) here =

@@ -1,6 +1,5 @@
 -- Tokens of code that stand in a text: they are proper.
-use Rattle.std.proofs.Common.{◌≡◌, Bool, true, false, List, [], ◌∷◌, ◌++◌, refl, sym, ◌∙◌, subst}
-use Rattle.std.proofs.lemmas.Bool.{false≢true}
+use Rattle.std.proofs.Common.{◌≡◌, true, false, List, [], ◌∷◌, ◌++◌, refl, subst}
 use Rattle.cs_token.specs.declared.token.Token.{Token}
 use Rattle.cs_token.specs.declared.token.TokenKind.{TokenKind}
 use Rattle.cs_token.specs.declared.token.TokenKind.TheVariants as t
@@ -12,34 +11,29 @@ use Rattle.razor_ast.specs.Brackets.{Round, round}
 use Rattle.razor_reader.proofs.HeadComplete.{in_brackets_is}
 use Rattle.printed_pieces.specs.Sound.{IsSound}
 use Rattle.printed_pieces.specs.Written.{IsLexeme, is_part, begins_part, AreProper, no_token, one_token}
-use Rattle.printable_texts.specs.Stands.{Where, Fits, Stands, one_more, behind, begins_text_part, is_before_part}
+use Rattle.printable_texts.specs.Stands.{Where, Fits, Leads, Stands, one_more, behind, begins_text_part, is_no_lead}
 
-no_before : (kind : TokenKind) → is_part kind ≡ true → is_before_part (k.Code kind) ≡ false
-no_before (t.Part x) e = refl
-no_before _ e = absurd (cc)
+part_leads_none : (kind : TokenKind) → is_part kind ≡ true → is_no_lead (k.Code kind) ≡ true
+part_leads_none (t.Part x) e = refl
+part_leads_none _ e = absurd (cc)
 
-begins_codes : (ts : List Token) (us : List Piece) → begins_part ts ≡ true → begins_text_part (codes_of ts ++ us) ≡ true
-begins_codes [] us e = absurd (cc)
+pub begins_codes : (ts : List Token) (us : List Piece) → begins_text_part (codes_of ts ++ us) ≡ false → begins_part ts ≡ false
+begins_codes [] us e = refl
 begins_codes (u ∷ ts) us e = e
-
--- what doesn't stand behind a sign that literal text stands behind doesn't begin with it
-pub no_part : (b c : Bool) → (b ≡ true → c ≡ true) → c ≡ false → b ≡ false
-no_part true c h e = absurd (false≢true (sym e ∙ h refl))
-no_part false c h e = refl
 
 pub codes_stand : (place : Where) (ts : List Token) (us : List Piece) → Stands place (codes_of ts ++ us) → AreProper ts × Stands place us
 codes_stand place [] us h = (no_token, h)
-codes_stand place (u ∷ ts) us (one_more _ _ _ sound _ apart h) =
+codes_stand place (u ∷ ts) us (one_more _ _ _ sound _ _ apart h) =
     let more = codes_stand place ts us h in
-    (one_token u ts sound (λ e. no_part (begins_part ts) (is_before_part (k.Code u.kind)) (λ f. apart (begins_codes ts us f)) (no_before u.kind e)) more.0, more.1)
-
--- behind `{` or the like no literal text stands
-pub begun : (ts : List Token) (us : List Piece) (b : Bool) → (begins_text_part (codes_of ts ++ us) ≡ true → b ≡ true) → b ≡ false → begins_part ts ≡ false
-begun ts us b apart e = no_part (begins_part ts) b (λ f. apart (begins_codes ts us f)) e
+    (one_token u ts sound (λ e. begins_codes ts us (apart (part_leads_none u.kind e))) more.0, more.1)
 
 -- a piece of this kind, and those behind it
 pub step : (place : Where) (kind : PieceKind) (p : Piece) (ps : List Piece) → IsKind kind p → Stands place (p ∷ ps) → IsSound kind × Fits place kind × Stands (behind kind place) ps
-step place kind p ps is (one_more _ _ _ sound fits _ h) = (subst IsSound is sound, subst (λ z. Fits place z) is fits, subst (λ z. Stands (behind z place) ps) is h)
+step place kind p ps is (one_more _ _ _ sound fits _ _ h) = (subst IsSound is sound, subst (λ z. Fits place z) is fits, subst (λ z. Stands (behind z place) ps) is h)
+
+-- what may stand behind it
+pub led : (place : Where) (kind : PieceKind) (p : Piece) (ps : List Piece) → IsKind kind p → Stands place (p ∷ ps) → Leads kind place ps
+led place kind p ps is (one_more _ _ _ _ _ leads _ _) = subst (λ z. Leads z place ps) is leads
 
 -- a token that a piece is
 pub piece_lexeme : (place : Where) (kind : TokenKind) (p : Piece) (ps : List Piece) → IsKind (k.Code kind) p → Stands place (p ∷ ps) → IsLexeme kind × Stands place ps

@@ -23,7 +23,7 @@ use Rattle.razor_ast.specs.Pieces.{IsKind}
 use Rattle.razor_print.specs.Quotes.{holds, is_double, mixed_quote}
 use Rattle.printed_pieces.specs.Places.{is_said}
 use Rattle.printed_pieces.specs.Printable.{AreParts, no_part, literal, shown}
-use Rattle.printable_texts.specs.Stands.{value, tag, Point, Stands, IsWithin, within, is_within}
+use Rattle.printable_texts.specs.Stands.{value, tag, Stands, IsWithin, within, is_within}
 use Rattle.printable_texts.proofs.CodeLaws.{shown_written}
 use Rattle.printable_texts.proofs.TokenLaws.{step}
 
@@ -94,7 +94,7 @@ run_ends (p ∷ ps) = go p.kind refl (run_ends ps)
 
 -- a value of literal text and expressions
 abbrev pub Mixed : (component void : Bool) (quote : Option Quote) → List Piece → Type 0
-Mixed component void quote ps = (point : Point) × Stands (value component void h.Mixed quote point) ps
+Mixed component void quote ps = Stands (value component void h.Mixed quote) ps
 
 is_all : (quote : Option Quote) (x : List ℕ) → IsWithin quote x → list_all (is_within quote) x ≡ true
 is_all quote _ (within c text e) = e
@@ -102,8 +102,8 @@ is_all quote _ (within c text e) = e
 mixed_step : (component void : Bool) (quote : Option Quote) (x text : List ℕ) (p : Piece) (ps : List Piece) → IsKind (k.Literal x) p → Mixed component void quote (p ∷ ps)
     → Mixed component void quote ps × (list_all (is_within quote) text ≡ true → list_all (is_within quote) (x ++ text) ≡ true)
 mixed_step component void quote x text p ps is here =
-    let first = step (value component void h.Mixed quote here.0) (k.Literal x) p ps is here.1 in
-    ((_, first.2), λ e. all_both (is_within quote) x text (is_all quote x first.1) e)
+    let first = step (value component void h.Mixed quote) (k.Literal x) p ps is here in
+    (first.2, λ e. all_both (is_within quote) x text (is_all quote x first.1) e)
 
 -- such a piece isn't empty
 some_text : (quote : Option Quote) (x rest text : List ℕ) → IsWithin quote x → x ++ rest ≡ text → list_all (is_within quote) text ≡ true
@@ -114,17 +114,17 @@ some_text quote _ rest text (within c more _) e all ps h =
 
 pub parts_are : (component void : Bool) (quote : Option Quote) (b : Bool) (ps rest : List Piece) (parts : List ValuePart) → Parts ps rest parts → Mixed component void quote ps
     → (b ≡ true → begins_literal ps ≡ false) → AreParts (quote_of quote) b parts × Stands (tag component void) rest
-parts_are component void quote b _ rest _ (spelled.no_part end _ is) here apart = (no_part b, (step (value component void h.Mixed quote here.0) k.ValueEnd end rest is here.1).2)
+parts_are component void quote b _ rest _ (spelled.no_part end _ is) here apart = (no_part b, (step (value component void h.Mixed quote) k.ValueEnd end rest is here).2)
 parts_are component void quote true _ rest _ (spelled.literal x text p ps us _ parts is run more) here apart = absurd (false≢true (sym (apart refl) ∙ ap (λ z. is_some (literal_of z)) is))
 parts_are component void quote false _ rest _ (spelled.literal x text p ps us _ parts is run more) here apart =
     let said = run_is (Mixed component void quote) (λ z. list_all (is_within quote) z ≡ true) refl (mixed_step component void quote) (p ∷ ps) here in
-    let first = step (value component void h.Mixed quote here.0) (k.Literal x) p ps is here.1 in
+    let first = step (value component void h.Mixed quote) (k.Literal x) p ps is here in
     let whole = run_of p ps (k.Literal x) is in
     let later = parts_are component void quote true us rest parts more (subst (Mixed component void quote) (ap (λ z. z.1) run) said.1) (λ e. ap (λ z. begins_literal z.1) (sym run) ∙ run_ends (p ∷ ps)) in
     (some_text quote x (literal_run ps).0 text first.1 (ap (λ z. z.0) (sym whole ∙ run)) (subst (λ z. list_all (is_within quote) z ≡ true) (ap (λ z. z.0) run) said.0) parts later.0, later.1)
 parts_are component void quote b ps rest _ (spelled.shown _ us _ a parts first more) here apart =
-    let one = shown_written (value component void h.Mixed quote here.0) ps us a first here.1 in
-    let later = parts_are component void quote false us rest parts more (here.0, one.1) (λ e. absurd (false≢true e)) in
+    let one = shown_written (value component void h.Mixed quote) ps us a first here in
+    let later = parts_are component void quote false us rest parts more one.1 (λ e. absurd (false≢true e)) in
     (shown b a parts one.0 later.0, later.1)
 
 -- in double quotes there is none in the text

@@ -1,5 +1,5 @@
 -- Where the pieces of a text stand, and what a piece is there. Comments, and white space between tokens, are left out.
-use Rattle.std.specs.Prelude.{◌≡◌, ℕ, Bool, true, false, ◌==◌, List, [], ◌∷◌, Option, Some, None, if◌then◌else◌}
+use Rattle.std.specs.Prelude.{◌≡◌, ℕ, Bool, true, false, List, [], ◌∷◌, Option, Some, None}
 use Rattle.std.specs.List.{list_all}
 use Rattle.cs_token.specs.declared.token.TokenKind.TheVariants as t
 use Rattle.cs_token.specs.declared.token.Sign.TheVariants as s
@@ -9,19 +9,15 @@ use Rattle.razor_token.specs.declared.piece.Piece.{Piece}
 use Rattle.razor_token.specs.declared.piece.PieceKind.{PieceKind}
 use Rattle.razor_token.specs.declared.piece.PieceKind.TheVariants as k
 use Rattle.razor_token.specs.declared.piece.Quote.{Quote}
-use Rattle.razor_token.specs.Runs.{is_of, is_bare}
+use Rattle.razor_token.specs.Runs.{is_bare}
 use Rattle.razor_token.specs.Tags.{is_component, is_void, held_by}
 use Rattle.razor_token.specs.ValueFronts.{quoted_run}
+use Rattle.razor_ast.specs.Attributes.{TextValue}
 use Rattle.printed_pieces.specs.Places.{is_said}
+use Rattle.printed_pieces.specs.Printable.{IsValueText}
 use Rattle.printed_pieces.specs.PrintableNodes.{IsContentText}
 use Rattle.printed_pieces.specs.Sound.{IsSound}
 use Rattle.printed_pieces.specs.Written.{is_part}
-
--- In a value: where it begins, or behind something of it, or right behind a single at sign.
-pub data Point : Type 0 where
-  begins : Point
-  behind_some : Point
-  behind_at : Point
 
 -- In content or code; in an end tag; in the start tag of a component or not, whose element has no content or may have some; there
 -- behind the name of an attribute; or in the value of an attribute that can hold this, in these quotes or none.
@@ -30,7 +26,7 @@ pub data Where : Type 0 where
   end_tag : Where
   tag : (component void : Bool) → Where
   named : (component void : Bool) (name : List ℕ) → Where
-  value : (component void : Bool) (holds : Holds) (quote : Option Quote) (point : Point) → Where
+  value : (component void : Bool) (holds : Holds) (quote : Option Quote) → Where
 
 -- behind the name of an attribute
 abbrev pub behind_name : List ℕ → Where → Where
@@ -45,22 +41,13 @@ behind_space place = place
 
 -- behind the start of a value
 abbrev pub behind_start : Option Quote → Where → Where
-behind_start quote (named component void name) = value component void (held_by component name) quote begins
+behind_start quote (named component void name) = value component void (held_by component name) quote
 behind_start quote place = place
 
 -- behind the end of a value
 abbrev pub behind_end : Where → Where
-behind_end (value component void holds quote point) = tag component void
+behind_end (value component void holds quote) = tag component void
 behind_end place = place
-
--- behind literal text
-abbrev pub is_at_sign : List ℕ → Bool
-is_at_sign (c ∷ []) = c == 64
-is_at_sign _ = false
-
-abbrev pub behind_literal : List ℕ → Where → Where
-behind_literal x (value component void holds quote point) = value component void holds quote (if is_at_sign x then behind_at else behind_some)
-behind_literal x place = place
 
 -- behind a piece
 abbrev pub behind : PieceKind → Where → Where
@@ -73,7 +60,6 @@ behind k.Space place = behind_space place
 behind (k.AttributeName x) place = behind_name x place
 behind (k.ValueStart quote) place = behind_start quote place
 behind k.ValueEnd place = behind_end place
-behind (k.Literal x) place = behind_literal x place
 behind _ place = place
 
 -- a character of literal text in these quotes, or without quotes
@@ -85,30 +71,15 @@ is_within None c = is_bare c
 pub data IsWithin (quote : Option Quote) : List ℕ → Type 0 where
   within : (c : ℕ) (text : List ℕ) → list_all (is_within quote) (c ∷ text) ≡ true → IsWithin quote (c ∷ text)
 
--- the same characters without at signs
-abbrev pub is_plain : Option Quote → ℕ → Bool
-is_plain (Some quote) c = is_of (quoted_run quote) c
-is_plain None c = is_bare c
-
--- A piece of a parameter's text: one or two at signs, which don't stand first, or characters without any. One at sign is followed by
--- neither of them, nor by a bracket.
-pub data IsSupplied (quote : Option Quote) : Point → List ℕ → Type 0 where
-  two_at_signs : IsSupplied quote behind_some (64 ∷ 64 ∷ [])
-  at_sign : IsSupplied quote behind_some (64 ∷ [])
-  first : (c : ℕ) (text : List ℕ) → list_all (is_plain quote) (c ∷ text) ≡ true → IsSupplied quote begins (c ∷ text)
-  more : (c : ℕ) (text : List ℕ) → list_all (is_plain quote) (c ∷ text) ≡ true → IsSupplied quote behind_some (c ∷ text)
-  behind_one : (c : ℕ) (text : List ℕ) → list_all (is_plain quote) (c ∷ text) ≡ true → (c == 40) ≡ false → IsSupplied quote behind_at (c ∷ text)
-
 -- literal text in a value that can hold this
-abbrev pub FitsValue : Holds → Option Quote → Point → List ℕ → Type 0
-FitsValue h.Mixed quote point x = IsWithin quote x
-FitsValue h.Supplied quote point x = IsSupplied quote point x
-FitsValue _ quote point x = Unit {0}
+abbrev pub FitsValue : Holds → Option Quote → List ℕ → Type 0
+FitsValue h.Mixed quote x = IsWithin quote x
+FitsValue _ quote x = Unit {0}
 
 -- literal text there
 abbrev pub FitsText : Where → List ℕ → Type 0
 FitsText content x = IsContentText x
-FitsText (value component void holds quote point) x = FitsValue holds quote point x
+FitsText (value component void holds quote) x = FitsValue holds quote x
 FitsText _ x = Unit {0}
 
 -- content may follow there
@@ -123,6 +94,21 @@ Fits place (k.Literal x) = FitsText place x
 Fits place k.ContentStart = FitsStart place
 Fits place _ = Unit {0}
 
+-- a value of a parameter that is literal text alone is the text of a parameter
+abbrev pub Supplies : Holds → List Piece → Type 0
+Supplies h.Supplied ps = (rest : List Piece) (text : List ℕ) → TextValue ps rest text → IsValueText text
+Supplies _ ps = Unit {0}
+
+-- where a value begins there, these pieces of it may follow
+abbrev pub BeginsWell : Where → List Piece → Type 0
+BeginsWell (named component void name) ps = Supplies (held_by component name) ps
+BeginsWell _ ps = Unit {0}
+
+-- these pieces may stand behind the piece there
+abbrev pub Leads : PieceKind → Where → List Piece → Type 0
+Leads (k.ValueStart quote) place ps = BeginsWell place ps
+Leads _ place ps = Unit {0}
+
 -- literal text of an interpolated one
 abbrev pub is_text_part : PieceKind → Bool
 is_text_part (k.Code kind) = is_part kind
@@ -133,14 +119,14 @@ abbrev pub begins_text_part : List Piece → Bool
 begins_text_part [] = false
 begins_text_part (p ∷ ps) = is_text_part p.kind
 
--- an interpolated text begins behind the sign, or goes on
-abbrev pub is_before_part : PieceKind → Bool
-is_before_part (k.Code (t.Sign s.InterpolationStart)) = true
-is_before_part (k.Code (t.Sign s.HoleClose)) = true
-is_before_part _ = false
+-- literal text of an interpolated one stands right behind neither of these: such a text, and a brace that opens
+abbrev pub is_no_lead : PieceKind → Bool
+is_no_lead (k.Code (t.Part x)) = true
+is_no_lead (k.Code (t.Sign s.OpenBrace)) = true
+is_no_lead _ = false
 
--- each piece is one that may stand there, and literal text of an interpolated one stands behind such a sign
+-- each piece is one that may stand there, before those behind it
 pub data Stands : Where → List Piece → Type 0 where
   none : (place : Where) → Stands place []
-  one_more : (place : Where) (p : Piece) (ps : List Piece) → IsSound p.kind → Fits place p.kind
-      → (begins_text_part ps ≡ true → is_before_part p.kind ≡ true) → Stands (behind p.kind place) ps → Stands place (p ∷ ps)
+  one_more : (place : Where) (p : Piece) (ps : List Piece) → IsSound p.kind → Fits place p.kind → Leads p.kind place ps
+      → (is_no_lead p.kind ≡ true → begins_text_part ps ≡ false) → Stands (behind p.kind place) ps → Stands place (p ∷ ps)
