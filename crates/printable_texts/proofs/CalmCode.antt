@@ -1,17 +1,14 @@
 -- In code, what is found leaves an interpolated text open there alone.
-use Rattle.std.proofs.Common.{◌≡◌, ℕ, ◌-◌, Bool, true, false, List, [], ◌∷◌, ◌++◌, length, drop, Some, None, Ok, Err, refl, sym, subst, arith, length-append}
+use Rattle.std.proofs.Common.{◌≡◌, ℕ, ◌-◌, Bool, true, false, List, [], ◌∷◌, ◌++◌, length, drop, Some, None, Ok, Err, refl, sym, subst, arith}
 use Rattle.std.specs.Prelude.{◌&&◌, ◌||◌, not, is_some, if◌then◌else◌}
 use Rattle.std.specs.declared.option.Option.{Option}
 use Rattle.cs_token.specs.declared.around.Around.{Around}
-use Rattle.cs_token.specs.declared.fault.Cause.TheVariants.{UnendedText}
 use Rattle.cs_token.specs.declared.token.Sign.{Sign}
 use Rattle.cs_token.specs.declared.token.Sign.TheVariants as s
 use Rattle.cs_token.specs.declared.token.TokenKind.{TokenKind}
 use Rattle.cs_token.specs.declared.token.TokenKind.TheVariants as t
 use Rattle.cs_token.specs.declared.token.Word.TheVariants as w
 use Rattle.cs_token.specs.Reading.Fronts.{Read, front_at}
-use Rattle.cs_token.specs.Wrong as wrong
-use Rattle.cs_token.proofs.ExactLemmas.{wrong-again, nothing_there}
 use Rattle.cs_token.proofs.SoundLemmas.{Sound, front-sound}
 use Rattle.razor_token.specs.declared.context.Change.{Change}
 use Rattle.razor_token.specs.declared.context.Context.{Context}
@@ -29,6 +26,7 @@ use Rattle.razor_token.specs.CodeFronts.{front_of, code_front, where_it, code_in
 use Rattle.razor_token.specs.Contexts.{changed, stays, leaves, with_sign}
 use Rattle.razor_token.specs.Pieces.{piece}
 use Rattle.razor_token.specs.ValueFronts.{plain_code, code_value_at, bare_code_at}
+use Rattle.printable_texts.proofs.TextSteps.{front_nothing, counts}
 use Rattle.printable_texts.proofs.Calm.{is_calm, keeps_calm, starts, KindLeads, FrontLeads, stands_lead, piece_leads}
 
 -- what was found, if anything
@@ -46,18 +44,11 @@ abbrev Fronts : Option Around → List ℕ → Option CodeFront → Type 0
 Fronts around text None = Unit {0}
 Fronts around text (Some front) = FrontLeads around text front.token front.count
 
-front_nothing : (around : Option Around) → front_at around [] ≡ Err (UnendedText, [])
-front_nothing None = nothing_there None
-front_nothing (Some a) = wrong-again (Some a) UnendedText [] [] (wrong.unended_line (Some a) [] refl refl)
-
-counts : (here rest : List ℕ) → length here ≡ length (here ++ rest) - length rest
-counts here rest = simp length-append (omega arith)
-
 read_leads : (around : Option Around) (text : List ℕ) (found : Read) → Sound around text found → Fronts around text (front_of text found)
 read_leads around text (Err fault) h = tt
 read_leads around text (Ok found) h =
     subst (λ z. FrontLeads around z found.0 (length z - length found.1)) (sym h.laid)
-    (subst (λ n. FrontLeads around (h.here ++ found.1) found.0 n) (counts h.here found.1) (stands_lead around found.0 h.here found.1 h.stands))
+    (subst (λ n. FrontLeads around (h.here ++ found.1) found.0 n) (sym (counts h.here found.1)) (stands_lead around found.0 h.here found.1 h.stands))
 
 front_leads : (around : Option Around) (text : List ℕ) → Fronts around text (code_front around text)
 unfolding code_front

@@ -9,6 +9,11 @@ pub mod CodeBefore
 pub mod MembersBefore
 pub mod FileLaws
 pub mod WalkSteps
+pub mod FrontShrinks
+pub mod TextSteps
+pub mod TextEnds
+pub mod TextWalk
+pub mod ParameterTexts
 pub mod Calm
 pub mod CalmCode
 pub mod CalmGoes
@@ -17,11 +22,6 @@ pub mod OutsideLaws
 pub mod ContentGoes
 pub mod OutsideGoes
 pub mod TagGoes
-pub mod FrontShrinks
-pub mod TextSteps
-pub mod TextEnds
-pub mod TextWalk
-pub mod ParameterTexts
 pub mod ValueStacks
 pub mod ValueGoes
 pub mod SupplyGoes

@@ -76,7 +76,7 @@ pub data RawGoes (around : Option Around) (text : List ℕ) : Option Found → T
   some : (token : Option TokenKind) (count : ℕ) (here rest : List ℕ) → text ≡ here ++ rest → take count text ≡ here → drop count text ≡ rest → Stands around token here rest
       → RawGoes around text (Some (record { kind = k.Literal (take count text); count = count; change = with_sign (sign_of token) (bracket_change None true around (sign_of token)) }))
 
-front_nothing : (around : Option Around) → front_at around [] ≡ Err (UnendedText, [])
+pub front_nothing : (around : Option Around) → front_at around [] ≡ Err (UnendedText, [])
 front_nothing None = nothing_there None
 front_nothing (Some a) = wrong-again (Some a) UnendedText [] [] (wrong.unended_line (Some a) [] refl refl)
 

@@ -23,14 +23,12 @@ use Rattle.printable_texts.proofs.Calm.{is_calm}
 use Rattle.printable_texts.proofs.PartWalk.{Calm, Stepped, step_calm, none_first}
 use Rattle.printable_texts.proofs.PlaceGoes.{At, BeginsSupplied, LeadsTo, PlaceGoes, nothing, on, place_goes}
 use Rattle.printable_texts.proofs.SupplyGoes.{Begins, quoted, bare, code_lead, shown_lead, supplies}
+use Rattle.printable_texts.proofs.TextWalk.{counted_some}
 use Rattle.printable_texts.proofs.WalkSteps.{made, step_found}
 
 -- one piece more, which counts or not
 uncounted : (p : Piece) (ps : List Piece) (kind : PieceKind) → p.kind ≡ kind → is_counted kind ≡ false → counted (p ∷ ps) ≡ counted ps
 uncounted p ps kind is e = let none : is_counted p.kind ≡ false = ap is_counted is ∙ e in rw none refl
-
-counts : (p : Piece) (ps : List Piece) (kind : PieceKind) → p.kind ≡ kind → is_counted kind ≡ true → counted (p ∷ ps) ≡ p ∷ counted ps
-counts p ps kind is e = let some : is_counted p.kind ≡ true = ap is_counted is ∙ e in rw some refl
 
 same_place : (kind : PieceKind) (place : Where) → is_counted kind ≡ false → behind kind place ≡ place
 same_place k.Comment place e = refl
@@ -43,7 +41,7 @@ stands_more place p ps kind is sound_so fits leads apart later = by (is_counted 
   where
     by : (b : Bool) → is_counted kind ≡ b → Stands place (counted (p ∷ ps))
     by true e =
-        subst (Stands place) (sym (counts p ps kind is e))
+        subst (Stands place) (sym (counted_some p ps kind is e))
         (one_more place p (counted ps) sound_so (subst (Fits place) (sym is) fits) (subst (λ z. Leads z place (counted ps)) (sym is) leads) apart (subst (λ z. Stands (behind z place) (counted ps)) (sym is) later))
     by false e = subst (Stands place) (sym (uncounted p ps kind is e)) (subst (λ z. Stands z (counted ps)) (same_place kind place e) later)
 

@@ -136,7 +136,7 @@ module _ (home : Home) (types : Types) (components : Bool) (fits : HomeFits type
             let there = all_fit name one is in
             after_judged types components Fit (known UnknownParameter place (target.parameter name)) (there.place, one.cs_type) (λ z. given_gift home g.scope target number z (takes_text target name z.1) it) (ap (known UnknownParameter place) there.known)
             (subst (λ b. Resolved types components Fit (given_gift home g.scope target number (there.place, one.cs_type) (not b && is_text one.cs_type) it)) (sym there.stands)
-              (given_resolved number there.place one.cs_type place it u there.declared formed (sym (ap (λ (b : Bool). if b then given_rules g one.cs_type place it else fine (tt {0})) there.is_type) ∙ e1)))
+            (given_resolved number there.place one.cs_type place it u there.declared formed (sym (ap (λ (b : Bool). if b then given_rules g one.cs_type place it else fine (tt {0})) there.is_type) ∙ e1)))
 
     key_resolved : (a : Expr) → found (rule_value.key g a) ≡ [] → Resolved types components Fit (attribute_gift home g.scope target (ak.Key a) (a.place) [])
     unfolding rule_value.key
